@@ -14,13 +14,13 @@ use ob_table::{Contract, Kind};
 
 // What differs: a place, and what is known of it at the head of the loop and at the end of the turn.
 #[derive(Clone, Copy)]
-struct Turned {
+struct Difference {
     place: Place,
     head: Option<Known>,
     end: Option<Known>,
 }
 
-// How a permission is held that something known has.
+// The mode in which a place is held, if it is known.
 fn mode_of(known: Option<Known>) -> Option<Mode> {
     match known {
         Some(known) => Some(known.permission.mode),
@@ -29,45 +29,45 @@ fn mode_of(known: Option<Known>) -> Option<Mode> {
 }
 
 // A place, if it isn't at the end of the turn as at the head.
-fn differing(case: &Case<'_>, end: &Context, place: Place) -> Option<Turned> {
-    let turned = Turned {
+fn differing(case: &Case<'_>, end: &Context, place: Place) -> Option<Difference> {
+    let difference = Difference {
         place,
         head: case.context().get(place),
         end: end.get(place),
     };
-    if is_as_at_head(case.frame, turned.head, turned.end) {
+    if is_as_at_head(case.frame, difference.head, difference.end) {
         None
     } else {
-        Some(turned)
+        Some(difference)
     }
 }
 
 // The first such slot; `this` is the first of all.
-fn differing_slot(case: &Case<'_>, end: &Context) -> Option<Turned> {
+fn differing_slot(case: &Case<'_>, end: &Context) -> Option<Difference> {
     for slot in 0..case.frame.slots().max(1) {
         let place = if slot == 0 {
             Place::This
         } else {
             Place::Slot(slot)
         };
-        let turned = differing(case, end, place);
-        if turned.is_some() {
-            return turned;
+        let difference = differing(case, end, place);
+        if difference.is_some() {
+            return difference;
         }
     }
     None
 }
 
 // The first such place: fields come after slots.
-fn differing_place(case: &Case<'_>, end: &Context) -> Option<Turned> {
-    let turned = differing_slot(case, end);
-    if turned.is_some() {
-        return turned;
+fn differing_place(case: &Case<'_>, end: &Context) -> Option<Difference> {
+    let difference = differing_slot(case, end);
+    if difference.is_some() {
+        return difference;
     }
     for number in 0..case.frame.field_count() {
-        let turned = differing(case, end, Place::Field(FieldId(number)));
-        if turned.is_some() {
-            return turned;
+        let difference = differing(case, end, Place::Field(FieldId(number)));
+        if difference.is_some() {
+            return difference;
         }
     }
     None
@@ -110,8 +110,8 @@ fn say_head(case: &Case<'_>, words: &mut Words, head: Option<Known>) {
 }
 
 // Says what is known of it where the turn ends.
-fn say_end(case: &Case<'_>, words: &mut Words, turned: Turned) {
-    match (turned.head, turned.end) {
+fn say_end(case: &Case<'_>, words: &mut Words, difference: Difference) {
+    match (difference.head, difference.end) {
         (_, None) => words.put("has no value"),
         (Some(_), Some(known)) => {
             words.put("as ");
@@ -126,23 +126,26 @@ fn say_end(case: &Case<'_>, words: &mut Words, turned: Turned) {
 }
 
 // Says what differs, and where.
-fn say_turned(case: &Case<'_>, words: &mut Words, turned: Turned) {
-    put_name(case, words, turned.place);
-    say_head(case, words, turned.head);
-    say_end(case, words, turned);
+fn say_difference(case: &Case<'_>, words: &mut Words, difference: Difference) {
+    put_name(case, words, difference.place);
+    say_head(case, words, difference.head);
+    say_end(case, words, difference);
 }
 
 // Says by which use its owner lost a place in the turn, or which call let the state of `this` be forgotten.
-fn say_how(case: &Case<'_>, turned: Turned, head: Perm, words: &mut Words) {
-    let loss = way_of(case, turned.place).loss;
-    if let (Some(Mode::Owned), Some(Mode::Owned)) = (mode_of(turned.head), mode_of(turned.end)) {
-        if turned.place == Place::This {
+fn say_how(case: &Case<'_>, difference: Difference, head: Perm, words: &mut Words) {
+    let loss = way_of(case, difference.place).loss;
+    if let (Some(Mode::Owned), Some(Mode::Owned)) = (
+        mode_of(difference.head),
+        mode_of(difference.end),
+    ) {
+        if difference.place == Place::This {
             if let Some(call) = forgetting(case, head.states) {
                 say_forgotten(case, call, words);
             }
         }
     } else if let Some(loss) = loss {
-        put_name(case, words, turned.place);
+        put_name(case, words, difference.place);
         say_loss(case, words, "", loss);
     }
 }
@@ -172,8 +175,8 @@ fn help_with_state_of_this(case: &Case<'_>, head: Perm, words: &mut Words) {
 }
 
 // How another object comes back into a state in which a turn begins.
-fn help_with_state(case: &Case<'_>, turned: Turned, head: Known, words: &mut Words) {
-    let name = name_of(case, turned.place);
+fn help_with_state(case: &Case<'_>, difference: Difference, head: Known, words: &mut Words) {
+    let name = name_of(case, difference.place);
     let Some(contract) = contract_of(case, head.kind) else {
         return words.put("do it behind the loop.");
     };
@@ -241,35 +244,39 @@ fn help_to_give(place: Place, is_set: bool, words: &mut Words) {
 }
 
 // How a turn ends as it began.
-fn help_with_turn(case: &Case<'_>, turned: Turned, words: &mut Words) {
-    match (turned.head, mode_of(turned.head), mode_of(turned.end)) {
-        (Some(head), Some(Mode::Owned), Some(Mode::Owned)) => match turned.place {
+fn help_with_turn(case: &Case<'_>, difference: Difference, words: &mut Words) {
+    match (
+        difference.head,
+        mode_of(difference.head),
+        mode_of(difference.end),
+    ) {
+        (Some(head), Some(Mode::Owned), Some(Mode::Owned)) => match difference.place {
             Place::This => help_with_state_of_this(case, head.permission, words),
-            _ => help_with_state(case, turned, head, words),
+            _ => help_with_state(case, difference, head, words),
         },
-        (_, Some(Mode::Owned), Some(Mode::Shared)) => help_to_share(case, turned.place, words),
-        (_, Some(Mode::Owned), _) => help_to_keep(case, turned.place, words),
-        (head, _, Some(Mode::Owned)) => help_to_give(turned.place, head.is_some(), words),
+        (_, Some(Mode::Owned), Some(Mode::Shared)) => help_to_share(case, difference.place, words),
+        (_, Some(Mode::Owned), _) => help_to_keep(case, difference.place, words),
+        (head, _, Some(Mode::Owned)) => help_to_give(difference.place, head.is_some(), words),
         _ => words.put(
             "end the block with it held as before, or declare a variable of the block's own for what is held otherwise.",
         ),
     }
 }
 
-/// A turn of a loop that ends otherwise than it began.
+/// Explains a turn of a loop that ends otherwise than it began.
 pub fn explain_turn(case: &Case<'_>, told: &mut Explanation) {
-    let turned = match &case.trace.other {
+    let difference = match &case.trace.other {
         Some(end) => differing_place(case, end),
         None => None,
     };
-    let Some(turned) = turned else {
+    let Some(difference) = difference else {
         return told
             .what
             .put("a turn of this `while` ends otherwise than it began");
     };
-    say_turned(case, &mut told.what, turned);
-    if let Some(head) = turned.head {
-        say_how(case, turned, head.permission, &mut told.note);
+    say_difference(case, &mut told.what, difference);
+    if let Some(head) = difference.head {
+        say_how(case, difference, head.permission, &mut told.note);
     }
-    help_with_turn(case, turned, &mut told.help);
+    help_with_turn(case, difference, &mut told.help);
 }

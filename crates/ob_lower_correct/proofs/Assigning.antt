@@ -16,11 +16,11 @@ use Rattle.ob_silica.specs.declared.place.Operand.{Operand}
 use Rattle.ob_silica.specs.declared.place.Place.{Place}
 use Rattle.ob_silica.specs.declared.place.Place.TheVariants.{Field}
 use Rattle.ob_table_spec.specs.WellFormed as made
-use Rattle.ob_table_spec.specs.WellFormed.{local_kind, kind_of_seen, kind_of_resolved, is_reference, IsWellFormedExpression, IsReturned, IsCalled, PassTo, constructor_at}
+use Rattle.ob_table_spec.specs.WellFormed.{local_kind, kind_of_seen, kind_of_resolved, is_reference, IsWellFormedExpression}
 use Rattle.ob_heap_spec.specs.Values.{Value}
 use Rattle.ob_heap_spec.specs.Worlds.{World, RunOutcome, gives, with_some}
 use Rattle.ob_source_meaning.specs.Frames as meaning
-use Rattle.ob_source_meaning.specs.Frames.{Calls, Flow, goes_on, returns, known, named, SourceGiven}
+use Rattle.ob_source_meaning.specs.Frames.{Calls, Flow, goes_on}
 use Rattle.ob_source_meaning.specs.Statements.{with_variable, assign, run}
 use Rattle.ob_source_meaning.specs.Fields.{assign_field}
 use Rattle.ob_silica.specs.Terms.{SilicaTerms, and_term, then_terms}

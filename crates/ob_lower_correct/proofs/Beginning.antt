@@ -6,11 +6,11 @@ use Rattle.ob_base.specs.declared.fault.Span.{Span}
 use Rattle.ob_table.specs.Statements.{Statements}
 use Rattle.ob_table.specs.Tables.{ClassTable, contract_at}
 use Rattle.ob_table_spec.specs.WellFormed as made
-use Rattle.ob_table_spec.specs.WellFormed.{local_kind, kind_of_seen, kind_of_resolved, is_reference, IsWellFormedExpression, IsReturned, IsCalled, PassTo, constructor_at}
+use Rattle.ob_table_spec.specs.WellFormed.{local_kind, kind_of_resolved}
 use Rattle.ob_heap_spec.specs.Values.{Value}
 use Rattle.ob_heap_spec.specs.Worlds.{World, RunOutcome, gives, aborts, wrong, ◌>>=◌}
 use Rattle.ob_source_meaning.specs.Frames as meaning
-use Rattle.ob_source_meaning.specs.Frames.{Calls, Flow, goes_on, returns, known, named, SourceGiven}
+use Rattle.ob_source_meaning.specs.Frames.{Calls, Flow, goes_on, returns}
 use Rattle.ob_silica.specs.Terms.{SilicaTerms, no_terms, then_terms, one_term, return_form}
 use Rattle.ob_silica_steps.specs.Configurations.{SilicaProgram, SlotCells, Rest, runs, Configuration}
 use Rattle.ob_silica_steps.specs.Here.{Here}
@@ -23,7 +23,6 @@ use Rattle.ob_lower_correct.proofs.Standing.{Setting, frame_in, made_in, config,
 use Rattle.ob_lower_correct.proofs.Calling.{CallsRun}
 use Rattle.ob_lower_correct.proofs.Flows.{left_from, Placed, At, Left, Flows, left_closed}
 use Rattle.ob_lower_correct.proofs.Changes.{same_or}
-use Rattle.ob_table_spec.specs.WellFormed.{kind_of_expression, ServesAs, serves_as, locals_after, ends_there, IsStatement, IsValue}
 use Rattle.ob_table.specs.Statements.{resolved_block}
 use Rattle.ob_table.specs.declared.contract.Param.{Param}
 use Rattle.ob_table_spec.specs.WellFormed.{AreStatements, one_ends_there}

@@ -3,12 +3,11 @@ use Rattle.std.proofs.Common.{◌≡◌, ℕ, ◌≤◌, Bool, true, false, List
 use Rattle.std.specs.Prelude.{option_map, if◌then◌else◌}
 use Rattle.ob_table.specs.Tables.{ClassTable, contract_at}
 use Rattle.ob_table_spec.specs.WellFormed as made
-use Rattle.ob_table_spec.specs.WellFormed.{local_kind, kind_of_seen, kind_of_resolved, is_reference, IsWellFormedExpression, IsReturned, IsCalled, PassTo, constructor_at}
 use Rattle.ob_heap_spec.specs.Values.{Value}
 use Rattle.ob_heap_spec.specs.Worlds.{World, RunOutcome, gives, aborts, wrong, ◌>>=◌}
 use Rattle.ob_heap_spec.specs.Marks.{unlock}
 use Rattle.ob_source_meaning.specs.Frames as meaning
-use Rattle.ob_source_meaning.specs.Frames.{Calls, Flow, goes_on, returns, known, named, SourceGiven}
+use Rattle.ob_source_meaning.specs.Frames.{Calls, Flow, goes_on, returns}
 use Rattle.ob_silica.specs.Terms.{SilicaTerms, no_terms}
 use Rattle.ob_silica_places.specs.Places.{Location}
 use Rattle.ob_silica_steps.specs.Configurations.{SilicaProgram, SlotCells, Rest, runs, leaves, Configuration, goes}
@@ -28,7 +27,6 @@ use Rattle.ob_lower_correct.proofs.Standing.{later_on, none_some}
 use Rattle.ob_silica_steps.specs.Configurations.{Ends as BranchEnds, plain_end, test_end, lock_end}
 use Rattle.ob_silica_steps.specs.Testing.{end_branch}
 use Rattle.ob_perm.specs.Permissions.{shared}
-use Rattle.ob_table_spec.specs.WellFormed.{RefersTo, Refers}
 use Rattle.ob_heap_spec.specs.Contents.{object_at}
 use Rattle.ob_heap_spec.specs.Worlds.{read_object, is_made, with_read, object_item}
 

@@ -7,11 +7,11 @@ use Rattle.ob_table.specs.declared.contract.Field.{Field}
 use Rattle.ob_table.specs.declared.seen.Kind.TheVariants.{Reference}
 use Rattle.ob_table.specs.Tables.{ClassTable, contract_at}
 use Rattle.ob_table_spec.specs.WellFormed as made
-use Rattle.ob_table_spec.specs.WellFormed.{local_kind, kind_of_seen, kind_of_resolved, is_reference, IsWellFormedExpression, IsReturned, IsCalled, PassTo, constructor_at}
+use Rattle.ob_table_spec.specs.WellFormed.{kind_of_resolved}
 use Rattle.ob_heap_spec.specs.Values.{Value, Numbered}
 use Rattle.ob_heap_spec.specs.Worlds.{World, edit_object, RunOutcome}
 use Rattle.ob_source_meaning.specs.Frames as meaning
-use Rattle.ob_source_meaning.specs.Frames.{Calls, Flow, goes_on, returns, known, named, SourceGiven}
+use Rattle.ob_source_meaning.specs.Frames.{Calls, Flow, SourceGiven}
 use Rattle.ob_source_meaning.specs.Naming.{values_given, value_of_operand}
 use Rattle.ob_source_meaning.specs.Fields.{cut_to, moved_to, come_into_fields}
 use Rattle.ob_silica.specs.Terms.{SilicaTerms}

@@ -7,11 +7,10 @@ use Rattle.ob_table.specs.Statements.{GivenField, resolved_change}
 use Rattle.ob_table.specs.declared.seen.Kind.TheVariants.{Reference}
 use Rattle.ob_table.specs.Tables.{ClassTable, contract_at}
 use Rattle.ob_table_spec.specs.WellFormed as made
-use Rattle.ob_table_spec.specs.WellFormed.{local_kind, kind_of_seen, kind_of_resolved, is_reference, IsWellFormedExpression, IsReturned, IsCalled, PassTo, constructor_at}
 use Rattle.ob_heap_spec.specs.Values.{Value, Numbered}
 use Rattle.ob_heap_spec.specs.Worlds.{World, by_state, unless_aborted, if_right, with_object, edit_object, RunOutcome, gives, with_some}
 use Rattle.ob_source_meaning.specs.Frames as meaning
-use Rattle.ob_source_meaning.specs.Frames.{Calls, Flow, goes_on, returns, known, named, SourceGiven}
+use Rattle.ob_source_meaning.specs.Frames.{Calls, Flow, goes_on}
 use Rattle.ob_source_meaning.specs.Naming.{values_given}
 use Rattle.ob_source_meaning.specs.Statements.{run}
 use Rattle.ob_source_meaning.specs.Fields.{given_of, moved_to, come_into_fields, move_this}

@@ -10,11 +10,11 @@ use Rattle.ob_table.specs.declared.seen.Kind.{Kind}
 use Rattle.ob_silica.specs.declared.place.Operand.{Operand}
 use Rattle.ob_silica.specs.declared.place.Place.TheVariants.{Slot}
 use Rattle.ob_table_spec.specs.WellFormed as made
-use Rattle.ob_table_spec.specs.WellFormed.{local_kind, kind_of_seen, kind_of_resolved, is_reference, IsWellFormedExpression, IsReturned, IsCalled, PassTo, constructor_at}
+use Rattle.ob_table_spec.specs.WellFormed.{local_kind, is_reference, IsWellFormedExpression}
 use Rattle.ob_heap_spec.specs.Values.{Value, int_value, bool_value, text_value, reference}
 use Rattle.ob_heap_spec.specs.Worlds.{World, RunOutcome, with_some}
 use Rattle.ob_source_meaning.specs.Frames as meaning
-use Rattle.ob_source_meaning.specs.Frames.{Calls, Flow, goes_on, returns, known, named, SourceGiven}
+use Rattle.ob_source_meaning.specs.Frames.{Calls, Flow}
 use Rattle.ob_heap_spec.specs.GoingWrong.{is_row}
 use Rattle.ob_source_meaning.specs.Statements.{run}
 use Rattle.ob_silica.specs.Terms.{SilicaTerms, no_terms, and_term, then_terms, one_term, copy_form}
@@ -39,7 +39,7 @@ use Rattle.ob_lower_correct.proofs.Setting.{placed_passed}
 use Rattle.ob_lower_correct.proofs.Plain.{seen_agree, serves_plain}
 use Rattle.ob_table.specs.declared.seen.Kind.TheVariants.{Bool as BoolKind, Reference}
 use Rattle.ob_table.specs.Statements.{GivenField, resolved_stage, resolved_change, resolved_test, resolved_if, resolved_while, no_statements, Block, Otherwise}
-use Rattle.ob_table_spec.specs.WellFormed.{kind_of_expression, ServesAs, serves_as, locals_after, ends_there, IsStatement, IsValue}
+use Rattle.ob_table_spec.specs.WellFormed.{kind_of_expression, ServesAs, serves_as, IsValue}
 use Rattle.ob_source_meaning.specs.Statements.{choose, run_block, run_otherwise}
 use Rattle.ob_silica.specs.Terms.{if_form}
 use Rattle.ob_silica_steps.specs.Configurations.{plain_end}

@@ -15,19 +15,19 @@ use Rattle.ob_table.specs.Tables.{ClassTable, contract_at, signature_of}
 use Rattle.ob_table.specs.declared.seen.Kind.{Kind}
 use Rattle.ob_silica.specs.declared.place.Operand.{Operand}
 use Rattle.ob_table_spec.specs.WellFormed as made
-use Rattle.ob_table_spec.specs.WellFormed.{local_kind, kind_of_seen, kind_of_resolved, is_reference, IsWellFormedExpression, IsReturned, IsCalled, PassTo, constructor_at}
+use Rattle.ob_table_spec.specs.WellFormed.{kind_of_resolved, IsWellFormedExpression, IsReturned, IsCalled, PassTo, constructor_at}
 use Rattle.ob_heap_spec.specs.Values.{Value, int_value, bool_value, text_value, reference, referred}
 use Rattle.ob_heap_spec.specs.Worlds.{World, by_revert, RunOutcome, gives, ◌>>=◌, with_some}
 use Rattle.ob_heap_spec.specs.Marks.{mark_disowned, unlock}
 use Rattle.ob_source_meaning.specs.Frames as meaning
-use Rattle.ob_source_meaning.specs.Frames.{Calls, Flow, goes_on, returns, known, named, SourceGiven}
+use Rattle.ob_source_meaning.specs.Frames.{Calls, Flow, goes_on, returns}
 use Rattle.ob_source_meaning.specs.Naming.{value_seen}
 use Rattle.ob_source_meaning.specs.Expressions.{operand_of, operands_of, let_go, started, constructed, run_alone}
 use Rattle.ob_source_meaning.specs.Statements.{abort_with, run}
 use Rattle.ob_silica.specs.Terms.{SilicaTerms, and_term, then_terms, one_term, new_form, const_form, assert_form, disown_form, return_form, revert_form}
 use Rattle.ob_silica_steps.specs.Cells.{Cell, constant_cell, value_in}
 use Rattle.ob_silica_places.specs.Places.{located}
-use Rattle.ob_silica_steps.specs.Configurations.{SilicaProgram, SlotCells, Notes, Rest, Control, runs, leaves, Configuration, NextStep, goes}
+use Rattle.ob_silica_steps.specs.Configurations.{SilicaProgram, SlotCells, Rest, Control, runs, leaves, Configuration, goes}
 use Rattle.ob_silica_steps.specs.Here.{Here, if_there, read, set_permission}
 use Rattle.ob_silica_places.specs.Known.{at}
 use Rattle.ob_silica_steps.specs.Steps.{step}

@@ -9,11 +9,11 @@ use Rattle.ob_table.specs.Expressions.{Expression, resolved_number, resolved_tex
 use Rattle.ob_table.specs.Tables.{ClassTable, contract_at, signature_of}
 use Rattle.ob_table.specs.declared.seen.SeenAt.{SeenAt}
 use Rattle.ob_table_spec.specs.WellFormed as made
-use Rattle.ob_table_spec.specs.WellFormed.{kind_of_resolved, local_kind, kind_of_seen, is_reference, IsWellFormedExpression, AreWellFormedArguments, IsCalled, PassTo, constructor_at, kind_of_expression}
+use Rattle.ob_table_spec.specs.WellFormed.{local_kind, is_reference, IsWellFormedExpression, AreWellFormedArguments, IsCalled, PassTo, constructor_at}
 use Rattle.ob_heap_spec.specs.Values.{Value, int_value, bool_value, text_value, reference}
 use Rattle.ob_heap_spec.specs.Worlds.{World, RunOutcome, gives, ◌>>=◌}
 use Rattle.ob_source_meaning.specs.Frames as meaning
-use Rattle.ob_source_meaning.specs.Frames.{known, named, of_object, of_this, of_new, Calls}
+use Rattle.ob_source_meaning.specs.Frames.{Calls}
 use Rattle.ob_source_meaning.specs.Naming.{value_seen, read as read_name}
 use Rattle.ob_heap_spec.specs.Operations.{between}
 use Rattle.ob_source_meaning.specs.Expressions.{after_operation, settled, after_left, started, constructed, value_of, operands_of, operand_of}

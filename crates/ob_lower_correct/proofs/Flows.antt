@@ -12,7 +12,7 @@ use Rattle.ob_table_spec.specs.WellFormed.{local_kind, is_reference, IsWellForme
 use Rattle.ob_heap_spec.specs.Values.{Value}
 use Rattle.ob_heap_spec.specs.Worlds.{World, RunOutcome, gives, aborts, wrong, ◌>>=◌, with_some, unit, with_fuel, with_unit_taken}
 use Rattle.ob_source_meaning.specs.Frames as meaning
-use Rattle.ob_source_meaning.specs.Frames.{Calls, Flow, goes_on, returns, known, named, SourceGiven}
+use Rattle.ob_source_meaning.specs.Frames.{Calls, Flow, goes_on, returns, known, SourceGiven}
 use Rattle.ob_heap_spec.specs.GoingWrong.{is_row}
 use Rattle.ob_source_meaning.specs.Naming.{value_seen, kind_seen, read as read_name, value_of_operand}
 use Rattle.ob_source_meaning.specs.Expressions.{operand_or, value_of, operand_of}

@@ -11,7 +11,7 @@ use Rattle.ob_table.specs.declared.contract.Signature.{Signature}
 use Rattle.ob_table.specs.declared.seen.Kind.{Kind}
 use Rattle.ob_table.specs.declared.seen.SeenAt.{SeenAt}
 use Rattle.ob_table_spec.specs.WellFormed as made
-use Rattle.ob_table_spec.specs.WellFormed.{kind_of_resolved, local_kind, kind_of_seen, is_reference, IsWellFormedExpression, AreWellFormedArguments, HasOperands, IsCalled, PassTo, constructor_at, kind_of_expression}
+use Rattle.ob_table_spec.specs.WellFormed.{kind_of_resolved, local_kind, kind_of_seen, is_reference, IsCalled, constructor_at}
 use Rattle.ob_heap_spec.specs.Values.{Value, referred}
 use Rattle.ob_heap_spec.specs.Worlds.{RunOutcome, gives, aborts, wrong, ◌>>=◌, with_some}
 use Rattle.ob_source_meaning.specs.Frames as meaning

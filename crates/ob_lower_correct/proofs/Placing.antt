@@ -20,7 +20,7 @@ use Rattle.ob_heap_spec.specs.Contents.{object_at}
 use Rattle.ob_heap_spec.specs.Worlds.{World, gives, if_right, with_some, edit_object}
 use Rattle.ob_heap_spec.specs.Marks.{comes_into}
 use Rattle.ob_source_meaning.specs.Frames as meaning
-use Rattle.ob_source_meaning.specs.Frames.{Flow, goes_on}
+use Rattle.ob_source_meaning.specs.Frames.{goes_on}
 use Rattle.ob_source_meaning.specs.Fields.{comes_into_field, assign_field}
 use Rattle.ob_heap_spec.specs.Objects.{with_field}
 use Rattle.ob_silica.specs.Terms.{SilicaForm, SilicaTerms, and_term, copy_form, move_form}

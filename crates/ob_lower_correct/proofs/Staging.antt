@@ -5,11 +5,11 @@ use Rattle.ob_base.specs.declared.id.StateId.{StateId}
 use Rattle.ob_table.specs.Statements.{GivenField, resolved_stage}
 use Rattle.ob_table.specs.Tables.{ClassTable, contract_at, field_at}
 use Rattle.ob_table_spec.specs.WellFormed as made
-use Rattle.ob_table_spec.specs.WellFormed.{local_kind, kind_of_seen, kind_of_resolved, is_reference, IsWellFormedExpression, IsReturned, IsCalled, PassTo, constructor_at}
+use Rattle.ob_table_spec.specs.WellFormed.{kind_of_resolved, IsWellFormedExpression}
 use Rattle.ob_heap_spec.specs.Values.{Value}
 use Rattle.ob_heap_spec.specs.Worlds.{World, RunOutcome}
 use Rattle.ob_source_meaning.specs.Frames as meaning
-use Rattle.ob_source_meaning.specs.Frames.{Calls, Flow, goes_on, returns, known, named, SourceGiven}
+use Rattle.ob_source_meaning.specs.Frames.{Calls, Flow, SourceGiven}
 use Rattle.ob_source_meaning.specs.Expressions.{operand_of}
 use Rattle.ob_source_meaning.specs.Statements.{run}
 use Rattle.ob_source_meaning.specs.Fields.{given_of}

@@ -8,11 +8,11 @@ use Rattle.ob_table.specs.Statements.{Statement, resolved_declare, resolved_assi
 use Rattle.ob_table.specs.Tables.{ClassTable, contract_at, field_at}
 use Rattle.ob_table.specs.declared.seen.Kind.{Kind}
 use Rattle.ob_table_spec.specs.WellFormed as made
-use Rattle.ob_table_spec.specs.WellFormed.{local_kind, kind_of_seen, kind_of_resolved, is_reference, IsWellFormedExpression, IsReturned, IsCalled, PassTo, constructor_at}
+use Rattle.ob_table_spec.specs.WellFormed.{local_kind, kind_of_seen, kind_of_resolved, IsWellFormedExpression}
 use Rattle.ob_heap_spec.specs.Values.{Value}
 use Rattle.ob_heap_spec.specs.Worlds.{World, RunOutcome, ◌>>=◌}
 use Rattle.ob_source_meaning.specs.Frames as meaning
-use Rattle.ob_source_meaning.specs.Frames.{Calls, Flow, goes_on, returns, known, named, SourceGiven}
+use Rattle.ob_source_meaning.specs.Frames.{Calls, Flow, goes_on, returns}
 use Rattle.ob_heap_spec.specs.GoingWrong.{is_row}
 use Rattle.ob_source_meaning.specs.Statements.{run}
 use Rattle.ob_silica.specs.Terms.{SilicaTerms, no_terms, then_terms}
@@ -35,7 +35,7 @@ use Rattle.ob_lower_correct.proofs.Fresh.{expression_fresh}
 use Rattle.ob_lower_correct.proofs.Setting.{placed_passed}
 use Rattle.ob_lower_correct.proofs.Expressions.{called_so}
 use Rattle.ob_table.specs.Statements.{GivenField, resolved_stage, resolved_change, resolved_test, resolved_if, resolved_while, no_statements, Block, Otherwise}
-use Rattle.ob_table_spec.specs.WellFormed.{kind_of_expression, ServesAs, serves_as, locals_after, ends_there, IsStatement, IsValue}
+use Rattle.ob_table_spec.specs.WellFormed.{locals_after, IsStatement, IsValue}
 use Rattle.ob_heap_spec.specs.GoingWrong.{is_followed}
 use Rattle.ob_source_meaning.specs.Statements.{run_block, run_otherwise}
 use Rattle.ob_silica.specs.Terms.{change_form}

@@ -14,11 +14,11 @@ use Rattle.ob_silica.specs.declared.place.Operand.{Operand}
 use Rattle.ob_silica.specs.declared.place.Place.{Place}
 use Rattle.ob_silica.specs.declared.place.Place.TheVariants.{This, Field}
 use Rattle.ob_table_spec.specs.WellFormed as made
-use Rattle.ob_table_spec.specs.WellFormed.{local_kind, kind_of_seen, kind_of_resolved, is_reference, IsWellFormedExpression, IsReturned, IsCalled, PassTo, constructor_at}
+use Rattle.ob_table_spec.specs.WellFormed.{kind_of_seen, kind_of_resolved, is_reference}
 use Rattle.ob_heap_spec.specs.Values.{Value, int_value, bool_value, text_value, reference, referred}
 use Rattle.ob_heap_spec.specs.Worlds.{World, RunOutcome, ◌>>=◌, with_some}
 use Rattle.ob_source_meaning.specs.Frames as meaning
-use Rattle.ob_source_meaning.specs.Frames.{Calls, Flow, goes_on, returns, known, named, SourceGiven}
+use Rattle.ob_source_meaning.specs.Frames.{Calls, Flow}
 use Rattle.ob_source_meaning.specs.Naming.{value_seen}
 use Rattle.ob_source_meaning.specs.Statements.{run}
 use Rattle.ob_silica.specs.Terms.{SilicaTerms, no_terms, and_term, then_terms, SilicaForm, one_term}
@@ -62,7 +62,7 @@ use Rattle.ob_heap_spec.specs.Contents.{object_at}
 use Rattle.ob_heap_spec.specs.Worlds.{by_state, read_object}
 use Rattle.ob_heap_spec.specs.Marks.{is_locked, is_in_progress, lock}
 use Rattle.ob_source_meaning.specs.StateTests as tests
-use Rattle.ob_source_meaning.specs.StateTests.{test_seen, branch, is_barred, tested_of}
+use Rattle.ob_source_meaning.specs.StateTests.{test_seen, branch}
 use Rattle.ob_source_meaning.specs.Naming.{contract_seen, contract_of_kind}
 use Rattle.ob_lower_correct.proofs.Names.{name_kind}
 use Rattle.ob_table.specs.Statements.{Block, Otherwise, resolved_test}

@@ -6,8 +6,8 @@ use Rattle.ob_code.specs.declared.image.Image.{Image}
 use Rattle.ob_disk_spec.specs.Disk.{DiskView}
 use Rattle.ob_disk_spec.specs.Calls.{IsUntouched}
 use Rattle.ob_disk_spec.proofs.Untouched.{untouched_none}
-use Rattle.ob_disk_spec.specs.Durable.{May, Throughout, During}
-use Rattle.ob_disk_spec.proofs.Moments.{weaker, then, during_none, throughout_to, throughout_may}
+use Rattle.ob_disk_spec.specs.Durable.{Throughout}
+use Rattle.ob_disk_spec.proofs.Moments.{weaker, then, throughout_to, throughout_may}
 use Rattle.ob_io.specs.Causes.{Rose}
 use Rattle.ob_base.specs.Limits.{most_taken}
 use Rattle.ob_io.specs.Told.{TakesAtMost, Gives}

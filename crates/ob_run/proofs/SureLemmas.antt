@@ -5,7 +5,7 @@ use Rattle.ob_io.specs.Sure.{sure_files_view, sure_source_view, sure_sink_view}
 use Rattle.ob_io.specs.declared.sure.SureFiles.{SureFiles}
 use Rattle.ob_io.specs.declared.sure.SureSink.{SureSink}
 use Rattle.ob_io.specs.declared.sure.SureSource.{SureSource}
-use Rattle.ob_run.specs.Faults.{NamesFault, NamesNone}
+use Rattle.ob_run.specs.Faults.{NamesFault, NamesNoFault}
 use Rattle.ob_run.specs.Outside.{OutsideView, told}
 use Rattle.ob_run.specs.declared.exit.Exit.{Exit}
 use Rattle.ob_run.specs.declared.exit.Exit.TheVariants.{Done, Refused, Usage, ReadFault, WriteFault, DiskFault, StoreRefused, FileFault, Memory, Long}
@@ -16,7 +16,7 @@ use Rattle.ob_run.proofs.HoldingLemmas.{no_rise}
 abbrev seen : Outside SureFiles SureSource SureSink SureDisk → OutsideView
 seen o = told sure_files_view sure_source_view sure_sink_view sure_disk_view o
 
-pub names_none : (before after : Outside SureFiles SureSource SureSink SureDisk) (exit : Exit) → NamesFault exit (seen before) (seen after) → NamesNone exit
+pub names_none : (before after : Outside SureFiles SureSource SureSink SureDisk) (exit : Exit) → NamesFault exit (seen before) (seen after) → NamesNoFault exit
 names_none before after Done named = tt
 names_none before after Refused named = tt
 names_none before after Usage named = tt

@@ -36,12 +36,12 @@ NamesFault FileFault before after = Rose before.files.faults after.files.faults
 NamesFault exit before after = ⊤
 
 -- the status names no fault of a call
-abbrev pub NamesNone : Exit → Type 0
-NamesNone ReadFault = ⊥
-NamesNone WriteFault = ⊥
-NamesNone DiskFault = ⊥
-NamesNone FileFault = ⊥
-NamesNone exit = ⊤
+abbrev pub NamesNoFault : Exit → Type 0
+NamesNoFault ReadFault = ⊥
+NamesNoFault WriteFault = ⊥
+NamesNoFault DiskFault = ⊥
+NamesNoFault FileFault = ⊥
+NamesNoFault exit = ⊤
 
 -- One count: it doesn't fall, rises by one at most, and is as it was where no call failed. For private clauses.
 pub record CountsFault (failed : Type 0) (before after : ℕ) : Type 0 where

@@ -4,7 +4,6 @@ ghost use Rattle.ob_code.specs.Images.{image};
 ghost use Rattle.ob_code_table.specs.ImageTables.{table_of_image};
 ghost use Rattle.ob_disk_spec.specs.Durable.{KeepsBehind};
 ghost use Rattle.ob_heap.specs.Contents.{content_of};
-ghost use Rattle.ob_owners.specs.Counts.{counts_of};
 ghost use Rattle.ob_store.specs.Reading.{NeedsNoArea};
 ghost use Rattle.ob_store.specs.Stores.{program_of};
 ghost use Rattle.ob_words.specs.Asked.{audit};

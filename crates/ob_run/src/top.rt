@@ -9,7 +9,7 @@ ghost use Rattle.ob_words.specs.AskedView.{asked_view, command_view};
 ghost use Rattle.ob_run.specs.Attaching.{UsesDisk, store_of, store_asked};
 ghost use Rattle.ob_run.specs.Commands.{file_of};
 ghost use Rattle.ob_run.specs.Corollary.{ServesObservable};
-ghost use Rattle.ob_run.specs.Faults.{CountsFault, EndsAtFault, NamesNone};
+ghost use Rattle.ob_run.specs.Faults.{CountsFault, EndsAtFault, NamesNoFault};
 ghost use Rattle.ob_run.specs.FileAsks.{AsksFor, program_ask};
 ghost use Rattle.ob_run.specs.Outside.{told, devices};
 ghost use Rattle.ob_run.specs.Runs.{IsRun};
@@ -170,5 +170,5 @@ pub fn sure_runs_name_no_fault()
     ensures { (words : Option AskedWords) (before after : Outside SureFiles SureSource SureSink SureDisk) (exit : Exit)
         → IsRun words (told sure_files_view sure_source_view sure_sink_view sure_disk_view before)
         (told sure_files_view sure_source_view sure_sink_view sure_disk_view after) exit
-        → NamesNone exit }
+        → NamesNoFault exit }
 {}

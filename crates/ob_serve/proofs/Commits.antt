@@ -1,8 +1,7 @@
 -- A turn of a batch, by what its commit comes to.
-use Rattle.std.proofs.Common.{◌≡◌, ℕ, suc, ◌-◌, ◌<◌, ◌≤◌, Bool, true, false, List, [], ◌∷◌, ◌++◌, length, map, refl, sym, ◌∙◌, ap, subst, arith}
+use Rattle.std.proofs.Common.{◌≡◌, ℕ, suc, ◌-◌, ◌<◌, ◌≤◌, Bool, true, false, List, [], ◌∷◌, ◌++◌, length, map, sym, ◌∙◌, ap, subst, arith}
 use Rattle.std.specs.Prelude.{Result, Ok, Err, ⊤}
 use Rattle.std.proofs.lemmas.List.{append-nil, length-map}
-use Rattle.ob_code.specs.declared.image.Image.{Image}
 use Rattle.ob_disk_spec.specs.Disk.{DiskView}
 use Rattle.ob_disk_spec.proofs.Untouched.{untouched_none}
 use Rattle.ob_heap.specs.declared.delta.Delta.{Delta}
@@ -24,7 +23,7 @@ use Rattle.ob_serve.specs.declared.serving.Served.TheVariants.{Memory}
 use Rattle.ob_serve.proofs.Progress.{stays_none, answered_none, answered_then, stopped_then}
 use Rattle.ob_serve.proofs.Rounds.{rest_items}
 use Rattle.ob_serve.proofs.Steps.{moment, memory_out}
-use Rattle.ob_serve.proofs.Turning.{Told, item_of, told, next_store}
+use Rattle.ob_serve.proofs.Turning.{item_of, told, next_store}
 
 module _ (b : BatchOn) (can : CanBeAnswered b) (n : ℕ) where
   -- it stops for want of memory, before anything is done

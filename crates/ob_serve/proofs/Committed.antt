@@ -1,5 +1,5 @@
 -- What committing leaves of a store and of its disk.
-use Rattle.std.proofs.Common.{◌≡◌, ◌⊎◌, inl, inr, ⊎_elim, ℕ, List, Option, Some, None, refl, sym, ◌∙◌, ap, subst}
+use Rattle.std.proofs.Common.{◌≡◌, ◌⊎◌, inl, inr, ℕ, List, Option, Some, None, refl, sym, ◌∙◌, ap, subst}
 use Rattle.std.specs.Prelude.{◌≢◌, Result, Ok, Err, IsErrOf}
 use Rattle.ob_io.specs.Causes.{Rose}
 use Rattle.ob_serve.specs.declared.committing.KeepError.{KeepError}
@@ -9,13 +9,12 @@ use Rattle.ob_disk_spec.specs.Calls.{IsUntouched}
 use Rattle.ob_disk_spec.specs.Durable.{May, Throughout, During}
 use Rattle.ob_disk_spec.proofs.Untouched.{untouched_during}
 use Rattle.ob_disk_spec.proofs.Moments.{throughout_to, throughout_may, during_to, during_none}
-use Rattle.ob_code.specs.declared.image.Image.{Image}
 use Rattle.ob_heap.specs.Contents.{content_of}
 use Rattle.ob_rest_spec.specs.AtRest.{IsStoreAtRest}
 use Rattle.ob_store_laws.specs.Recorded.{content_with}
 use Rattle.ob_store_spec.specs.Settling.{settled}
 use Rattle.ob_store_spec.specs.Stores.{StoreProgram, StoreState}
-use Rattle.ob_store.specs.Stores.{program_of, area_of_store, kept_of, state_of, StandsOn}
+use Rattle.ob_store.specs.Stores.{area_of_store, kept_of, state_of, StandsOn}
 use Rattle.ob_store.specs.Preparing.{IsPrepared, delta_prepared}
 use Rattle.ob_store.specs.Committing.{IsReady, StandsBeforeOrAfter}
 use Rattle.ob_store.specs.declared.store.Store.{Store}

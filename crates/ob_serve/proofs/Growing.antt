@@ -1,8 +1,8 @@
 -- What is done of a schedule stays done, and there are as many lanes, whatever turns come.
-use Rattle.std.proofs.Common.{◌≡◌, ℕ, zero, suc, ◌+◌, Bool, true, false, List, [], ◌∷◌, ◌++◌, length, map, replicate, Option, None, Some, refl, sym, ◌∙◌, ap, arith, append_assoc}
+use Rattle.std.proofs.Common.{◌≡◌, ℕ, zero, suc, ◌+◌, Bool, true, false, List, [], ◌∷◌, ◌++◌, length, replicate, Option, None, Some, refl, sym, ◌∙◌, ap, arith, append_assoc}
 use Rattle.std.specs.Prelude.{slice_get, if◌then◌else◌}
-use Rattle.ob_lanes_laws.specs.Schedule.{Rules, Busy, Done, Lanes, start, slice, commit, may_start, opened, sliced, with_lane, starts, runs, after_commit, committed, commits, step, idle}
-use Rattle.ob_lanes_laws.specs.Turns.{first_start, started, turned, turn, next_lane, Round, after_turns}
+use Rattle.ob_lanes_laws.specs.Schedule.{Rules, Busy, Done, Lanes, commit, may_start, opened, sliced, with_lane, starts, runs, committed, commits}
+use Rattle.ob_lanes_laws.specs.Turns.{first_start, started, turned, turn, after_turns}
 use Rattle.ob_lanes_laws.proofs.Lowering.{committed_length}
 use Rattle.std.proofs.lemmas.List.{length-set, length-replicate}
 

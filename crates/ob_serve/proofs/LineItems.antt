@@ -1,6 +1,6 @@
 -- The items of a line, by what is known of it.
-use Rattle.std.proofs.Common.{◌≡◌, ℕ, ◌<◌, ◌≤◌, Bool, true, false, List, [], length, Option, refl, sym, ◌∙◌, ap, subst, arith}
-use Rattle.std.specs.Prelude.{Result, Ok, Err, nat_le, IsTrue, ⊤, if◌then◌else◌}
+use Rattle.std.proofs.Common.{◌≡◌, ℕ, ◌<◌, ◌≤◌, Bool, true, false, List, [], length, refl, sym, ◌∙◌, ap, subst, arith}
+use Rattle.std.specs.Prelude.{Result, Err, nat_le, IsTrue, ⊤, if◌then◌else◌}
 use Rattle.std.proofs.lemmas.Bool.Decides.{nat_tests}
 use Rattle.ob_base.specs.Limits.{longest_line}
 use Rattle.ob_code.specs.declared.image.Image.{Image}
@@ -11,7 +11,7 @@ use Rattle.ob_wire.specs.Requests.{most_requests, is_batch_size}
 use Rattle.ob_wire.specs.declared.refusal.Refusal.{Refusal}
 use Rattle.ob_wire.specs.declared.refusal.Refusal.TheVariants.{LongLine}
 use Rattle.ob_wire.specs.declared.request.Incoming.{Incoming}
-use Rattle.ob_serve.specs.Asked.{asked_by, asked_by_value}
+use Rattle.ob_serve.specs.Asked.{asked_by_value}
 use Rattle.ob_serve.specs.Items.{Service, items_of_asked, items_of_line}
 use Rattle.ob_serve.specs.Serving.{Moment, Answers, items_shown}
 use Rattle.ob_serve.specs.Session.{SessionItem, is_blank_line}

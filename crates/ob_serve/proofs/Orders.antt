@@ -1,9 +1,9 @@
 -- A batch is answered in an order of its requests: each once, and those of a client as they stand in it.
-use Rattle.std.proofs.Common.{◌≡◌, ◌⊎◌, inl, inr, ⊎_elim, ℕ, zero, suc, ◌+◌, ◌<◌, Bool, true, false, ◌||◌, List, [], ◌∷◌, ◌++◌, length, map, reverse, Option, Some, refl, sym, ◌∙◌, ap, subst, arith, append_assoc, true≢false}
-use Rattle.std.specs.Prelude.{nat_eq, slice_get, slice_index_or, Ok, IfOk, ◌&&◌}
+use Rattle.std.proofs.Common.{◌≡◌, ◌⊎◌, inl, inr, ⊎_elim, ℕ, zero, suc, ◌+◌, ◌<◌, Bool, true, false, ◌||◌, List, [], ◌∷◌, ◌++◌, length, map, reverse, Some, refl, sym, ◌∙◌, ap, subst, arith, append_assoc, true≢false}
+use Rattle.std.specs.Prelude.{nat_eq, slice_get, slice_index_or, IfOk}
 use Rattle.std.specs.List.{Contains}
 use Rattle.std.proofs.lemmas.Bool.Decides.{nat_tests}
-use Rattle.std.proofs.lemmas.List.{reverse-append, reverse-reverse, length-map}
+use Rattle.std.proofs.lemmas.List.{reverse-append, reverse-reverse}
 use Rattle.std.proofs.lemmas.List.Elements.{Contains-push, Contains-append_left}
 use Rattle.std.proofs.lemmas.Option.{slice_get-map}
 use Rattle.std.proofs.lemmas.Slice.Eq.{bytes_eq-Decides}
@@ -12,19 +12,14 @@ use Rattle.ob_invocation_spec.specs.Requests as asked
 use Rattle.ob_invocation_spec.specs.Requests.{HasLabels}
 use Rattle.ob_lanes_laws.specs.Laws.{OfEach}
 use Rattle.ob_lanes_laws.proofs.Keeping.{both_true}
-use Rattle.ob_lanes_laws.proofs.Rounds.{there}
-use Rattle.ob_lanes_laws.specs.Requests.{Answer}
-use Rattle.ob_lanes_laws.specs.Schedule.{Done, is_done}
+use Rattle.ob_lanes_laws.specs.Schedule.{is_done}
 use Rattle.ob_lanes_laws.specs.Serial.{AreSerial, AreInOrder, AreEarlierDone}
 use Rattle.ob_lanes_laws.specs.Turns.{are_done_from}
 use Rattle.ob_silica_steps.specs.Configurations.{SilicaProgram}
-use Rattle.ob_store_spec.specs.Stores.{StoreState}
-use Rattle.ob_store.specs.Stores.{program_of}
 use Rattle.ob_wire.specs.Meanings.{request_of}
 use Rattle.ob_wire.specs.declared.request.Incoming.TheVariants.{Batch}
 use Rattle.ob_wire.specs.declared.request.Request.{Request}
-use Rattle.ob_serve.specs.Asked.{asked_by}
-use Rattle.ob_serve.specs.Batches.{answered_numbers, commit_order, MayFollow, IsOrderOf}
+use Rattle.ob_serve.specs.Batches.{answered_numbers, IsOrderOf}
 use Rattle.ob_serve.specs.Kept.{AreLimits, IsSoundFor, KeepsOrders}
 use Rattle.ob_serve.specs.Standing.{source_program}
 use Rattle.ob_serve.specs.Turning.{BatchOn, batch_on, asked_in, round_after, turns_of, CanBeAnswered}

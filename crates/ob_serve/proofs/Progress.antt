@@ -11,7 +11,7 @@ use Rattle.ob_io.proofs.TextLemmas.{split_none, split_more, split_end, split_par
 use Rattle.ob_io.specs.Views.{SourceView, SinkView}
 use Rattle.ob_io.proofs.ToldLemmas.{gives_none, gives_then, takes_none, takes_then, takes_from_none, takes_from_then}
 use Rattle.ob_disk_spec.specs.Disk.{DiskView, LeavesOnly}
-use Rattle.ob_disk_spec.specs.Durable.{May, Throughout}
+use Rattle.ob_disk_spec.specs.Durable.{Throughout}
 use Rattle.ob_disk_spec.proofs.Behind.{behind_none, behind_then}
 use Rattle.ob_disk_spec.proofs.Untouched.{untouched_none, untouched_then}
 use Rattle.ob_disk_spec.proofs.Moments.{weaker, then, throughout_to}

@@ -1,6 +1,6 @@
 -- From what a request comes to, to what is made ready for its line.
-use Rattle.std.proofs.Common.{◌≡◌, ℕ, ℤ, ◌+◌, ◌<◌, ◌≤◌, Bool, true, false, List, map, length, Option, Some, None, refl, sym, ◌∙◌, ap, subst, arith}
-use Rattle.std.specs.Prelude.{Result, Ok, Err, IfOk, nat_le}
+use Rattle.std.proofs.Common.{◌≡◌, ℕ, ℤ, List, map, Option, Some, None, refl, sym, ◌∙◌, ap, subst}
+use Rattle.std.specs.Prelude.{Result, Ok, Err, IfOk}
 use Rattle.ob_table.specs.Tables.{ClassTable}
 use Rattle.ob_code.specs.declared.image.Image.{Image}
 use Rattle.ob_heap_spec.specs.Objects.{Object}

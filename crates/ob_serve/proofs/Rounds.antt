@@ -1,11 +1,10 @@
 -- The schedule of a batch, turn after turn: its items so far, the store, and that its turns end.
-use Rattle.std.proofs.Common.{◌≡◌, ◌⊎◌, inl, inr, ℕ, ℤ, zero, suc, ◌+◌, ◌-◌, ◌*◌, ◌<◌, ◌≤◌, Bool, true, false, List, [], ◌∷◌, ◌++◌, length, map, reverse, replicate, Option, None, Some, refl, sym, ◌∙◌, ap, subst, arith, true≢false}
+use Rattle.std.proofs.Common.{◌≡◌, ◌⊎◌, inl, inr, ℕ, ℤ, zero, suc, ◌+◌, ◌-◌, ◌*◌, ◌≤◌, Bool, true, false, List, [], ◌∷◌, ◌++◌, length, map, reverse, replicate, Option, None, Some, refl, sym, ◌∙◌, ap, subst, arith, true≢false}
 use Rattle.std.specs.Prelude.{Result, Ok, Err, slice_get, option_map, if◌then◌else◌}
-use Rattle.std.proofs.lemmas.List.{append-nil, map-append, reverse-append, length-map, length-replicate}
+use Rattle.std.proofs.lemmas.List.{map-append, reverse-append, length-replicate}
 use Rattle.std.proofs.lemmas.List.Concat.{flat_map-append}
 use Rattle.std.proofs.lemmas.Option.{slice_get-map}
 use Rattle.ob_invocation_spec.specs.Replies as told
-use Rattle.ob_invocation_spec.specs.Replies.{invoked}
 use Rattle.ob_invocation_spec.specs.Requests as asked
 use Rattle.ob_invocation_spec.specs.Requests.{HasLabels}
 use Rattle.ob_lanes_laws.specs.Laws.{IsAtRestIn}
@@ -14,12 +13,11 @@ use Rattle.ob_lanes_laws.proofs.Ending.{turn_keeps, batch_ends, answered_batches
 use Rattle.ob_lanes_laws.proofs.Keeping.{Fits, Keeps, idle_keeps}
 use Rattle.ob_lanes_laws.proofs.Requests.{requests_fit}
 use Rattle.ob_lanes_laws.proofs.Rounds.{true_most, length_map, round_length}
-use Rattle.ob_lanes_laws.specs.Measures.{Distances, count_open, weight, weights, does, first_true, round_from, idle_turns, most_until, turns_left, may_one}
+use Rattle.ob_lanes_laws.specs.Measures.{Distances, count_open, weights, does, round_from, idle_turns, most_until, turns_left, may_one}
 use Rattle.ob_lanes_laws.specs.Requests.{Stores, Answer, replied, lacks_room, went_wrong, answer_by, store_by, IsInvoked, has_ended, commit, answer}
 use Rattle.ob_lanes_laws.specs.Schedule.{Rules, Busy, Done, Lanes, committed, commits, idle}
-use Rattle.ob_lanes_laws.specs.Serial.{Meaning, AreSerial, store_after, RunsAlone, IsReached, IsOf, AreLocal}
-use Rattle.ob_lanes_laws.specs.Turns.{Round, after_turns, is_answered}
-use Rattle.ob_machine_meaning.specs.Meanings.{machine_invocation}
+use Rattle.ob_lanes_laws.specs.Serial.{Meaning, AreSerial, store_after, RunsAlone, AreLocal}
+use Rattle.ob_lanes_laws.specs.Turns.{is_answered}
 use Rattle.ob_request_run_laws.specs.Runs.{Run}
 use Rattle.ob_store_spec.specs.Settling.{settled}
 use Rattle.ob_store_spec.specs.Stores.{StoreProgram, StoreState}
@@ -32,7 +30,7 @@ use Rattle.ob_serve.specs.Batches.{session_stores, batch_rules, answered_numbers
 use Rattle.ob_serve.specs.Items.{Service, by_machine, settled_item, invoked_item, request_item, request_items, request_at, in_order}
 use Rattle.ob_serve.specs.Session.{SessionItem, state_after}
 use Rattle.ob_serve.specs.Turning.{BatchOn, asked_in, round_after, round_turned, items_after, all_items, turns_of, CanBeAnswered}
-use Rattle.ob_serve.proofs.Growing.{turned_still, lanes_count, turns_grow}
+use Rattle.ob_serve.proofs.Growing.{turned_still, turns_grow}
 use Rattle.ob_serve.proofs.Sessions.{state_after-append}
 
 -- ---- requests one after another

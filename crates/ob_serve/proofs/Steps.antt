@@ -1,15 +1,14 @@
 -- One item is answered: what was made ready is committed, and its reply written.
-use Rattle.std.proofs.Common.{◌≡◌, ◌⊎◌, inl, inr, ⊎_elim, ℕ, ◌+◌, ◌<◌, List, [], ◌∷◌, ◌++◌, Option, None, refl, sym, ◌∙◌, ap, subst, arith}
+use Rattle.std.proofs.Common.{◌≡◌, ◌⊎◌, inl, inr, ⊎_elim, ℕ, List, [], ◌∷◌, Option, None, refl, sym, ◌∙◌, subst, arith}
 use Rattle.std.proofs.lemmas.List.{append-nil}
 use Rattle.std.specs.Prelude.{◌≢◌}
 use Rattle.ob_code.specs.declared.image.Image.{Image}
 use Rattle.ob_code_table.specs.ImageTables.{table_of_image}
 use Rattle.ob_disk_spec.specs.Calls.{IsUntouched}
 use Rattle.ob_disk_spec.specs.Disk.{DiskView, LeavesOnly}
-use Rattle.ob_disk_spec.specs.Durable.{May, Throughout, During}
+use Rattle.ob_disk_spec.specs.Durable.{Throughout, During}
 use Rattle.ob_disk_spec.proofs.Moments.{weaker, throughout_to, throughout_may}
-use Rattle.ob_disk_spec.proofs.Untouched.{untouched_none, untouched_during}
-use Rattle.ob_io.specs.Causes.{Rose}
+use Rattle.ob_disk_spec.proofs.Untouched.{untouched_during}
 use Rattle.ob_io.specs.Told.{Gives, GivesFront}
 use Rattle.ob_io.specs.Views.{SinkView}
 use Rattle.ob_io.proofs.ToldLemmas.{gives_none}
@@ -20,7 +19,6 @@ use Rattle.ob_store.specs.declared.store.Store.{Store}
 use Rattle.ob_serve.specs.Crash.{AfterSome}
 use Rattle.ob_serve.specs.Session.{SessionItem, bytes_of}
 use Rattle.ob_serve.specs.Serving.{Moment, IsServing, StaysIn, stands_where, Answered, RoseOnce, Stopped}
-use Rattle.ob_serve.specs.declared.serving.Served.{Served}
 use Rattle.ob_serve.specs.declared.serving.Served.TheVariants.{WriteFault, DiskFault, Memory}
 use Rattle.ob_serve.specs.Standing.{StandsForStore}
 use Rattle.ob_serve.proofs.Committed.{stands_through, quiet_stands}

@@ -1,7 +1,7 @@
 -- A store is the same by the class table of a program and by that of its code.
 use Rattle.std.proofs.lemmas.List.{length-map}
 use Rattle.std.proofs.lemmas.List.Elements.{All-map}
-use Rattle.std.proofs.Common.{◌≡◌, ◌≤◌, ◌^◌, ℕ, List, length, map, Option, All, refl, sym, ◌∙◌, ap, subst, arith}
+use Rattle.std.proofs.Common.{◌≡◌, ◌≤◌, ◌^◌, ℕ, List, length, map, Option, All, sym, ◌∙◌, ap, subst, arith}
 use Rattle.ob_table.specs.Tables.{ClassTable}
 use Rattle.ob_code.specs.Images.{image}
 use Rattle.ob_code.specs.declared.image.Image.{Image}
@@ -13,7 +13,7 @@ use Rattle.ob_emit_laws.proofs.Tables.{tables_agree}
 use Rattle.ob_emit_laws.specs.Names.{contract_without_names, without_names}
 use Rattle.ob_store_laws.specs.Recorded.{IsStorable}
 use Rattle.ob_store_spec.specs.Settling.{settled}
-use Rattle.ob_store_spec.specs.Stores.{StoreProgram, StoreState, StoreRefusal, IsStoreOf, IsRefused}
+use Rattle.ob_store_spec.specs.Stores.{StoreState, StoreRefusal, IsStoreOf, IsRefused}
 use Rattle.ob_store.specs.Stores.{program_of}
 use Rattle.ob_store_table_laws.proofs.Following.{store_follows, area_follows, refusal_follows}
 use Rattle.ob_store_table_laws.proofs.Whole.{named, unnamed, settled_unnamed}

@@ -1,9 +1,8 @@
 -- The lanes of the code follow the schedule of a batch.
-use Rattle.std.proofs.Common.{◌≡◌, ℕ, ℤ, suc, ◌<◌, ◌≤◌, Bool, true, false, List, [], ◌∷◌, ◌++◌, length, map, replicate, Option, None, Some, refl, sym, ◌∙◌, ap, subst, arith}
+use Rattle.std.proofs.Common.{◌≡◌, ℕ, ℤ, suc, ◌≤◌, Bool, true, false, List, [], ◌∷◌, ◌++◌, length, map, replicate, Option, None, Some, refl, sym, ◌∙◌, ap, subst, arith}
 use Rattle.std.specs.Prelude.{Ok, Err, slice_get, option_map, ◌&&◌}
 use Rattle.std.proofs.lemmas.List.{length-map, length-replicate}
 use Rattle.std.proofs.lemmas.Option.{slice_get-map}
-use Rattle.ob_base.specs.declared.id.ObjectId.{ObjectId}
 use Rattle.ob_code.specs.declared.image.Image.{Image}
 use Rattle.ob_code_table.specs.ImageTables.{table_of_image}
 use Rattle.ob_exec.specs.declared.runs.Ended.TheVariants.{Yes}
@@ -22,11 +21,11 @@ use Rattle.ob_lanes_laws.proofs.Keeping.{idle_lane}
 use Rattle.ob_machine_steps.specs.Measures.{LeadsAheadOrToUnit}
 use Rattle.ob_sound_code.specs.SoundCode.{IsSoundImage}
 use Rattle.ob_lanes_laws.specs.Requests.{has_ended}
-use Rattle.ob_lanes_laws.specs.Schedule.{Busy, Done, Lanes, is_done, idle, step, commit}
+use Rattle.ob_lanes_laws.specs.Schedule.{Done, Lanes, is_done, idle, step, commit}
 use Rattle.ob_lanes_laws.specs.Turns.{turned, next_lane, is_answered, are_done_from}
 use Rattle.ob_lanes_laws.specs.Requests.{Answer}
 use Rattle.ob_lanes.specs.Seen.{IsSeenAs}
-use Rattle.ob_lanes.specs.Standing.{State, BusyLane, StandFor, NoneHasEnded, EndsAlone, LaneTells, Tells, CanTurn, Turned, Fits, rules_on, Commits, committed_by, in_order, requests_kept}
+use Rattle.ob_lanes.specs.Standing.{State, BusyLane, StandFor, NoneHasEnded, EndsAlone, LaneTells, Tells, CanTurn, Turned, rules_on, Commits, committed_by, in_order, requests_kept}
 use Rattle.ob_lanes.specs.declared.entry.Entry.{Entry}
 use Rattle.ob_lanes.specs.declared.lanes.Lanes as lanes_here
 use Rattle.ob_lanes.specs.declared.lanes.Turn.{Turn}

@@ -1,5 +1,5 @@
 -- Nothing differs between a content and itself.
-use Rattle.std.proofs.Common.{◌≡◌, ◌+◌, ℕ, suc, Bool, true, false, not, cond, List, [], ◌∷◌, ◌++◌, length, map, filter, Option, Some, None, append_assoc, length-append, refl, sym, ◌∙◌, ap, subst, arith, slice_get}
+use Rattle.std.proofs.Common.{◌≡◌, ◌+◌, ℕ, suc, true, false, not, List, [], ◌∷◌, ◌++◌, length, map, filter, Option, Some, append_assoc, length-append, refl, sym, ◌∙◌, ap, arith, slice_get}
 use Rattle.std.proofs.Math.Seq.{get_or-append_seam}
 use Rattle.std.proofs.lemmas.Option.{slice_get-get_or}
 use Rattle.std.proofs.lemmas.Slice.Eq.{bytes_eq-Decides}
@@ -7,11 +7,11 @@ use Rattle.std.specs.Option.{option_map_or}
 use Rattle.std.specs.Str.{bytes_eq}
 use Rattle.ob_table.specs.Tables.{ClassTable}
 use Rattle.ob_heap_spec.specs.Objects.{Object}
-use Rattle.ob_heap_spec.specs.Contents.{HandleName, Handle, Content, object_at}
+use Rattle.ob_heap_spec.specs.Contents.{Content, object_at}
 use Rattle.ob_heap_spec.specs.Handles.{NamedHandle, handle_at, put_handles}
-use Rattle.ob_store_spec.specs.Payloads.{StoredObject, object, held}
-use Rattle.ob_store_spec.specs.Between.{stored_object, stored_from, is_stored_so, is_held_so, changed_objects, changed_handles, changes_between}
-use Rattle.ob_store_spec.specs.Settling.{is_empty, say_nothing}
+use Rattle.ob_store_spec.specs.Payloads.{object, held}
+use Rattle.ob_store_spec.specs.Between.{stored_object, stored_from, is_stored_so, is_held_so, changes_between}
+use Rattle.ob_store_spec.specs.Settling.{say_nothing}
 
 bytes_same : (bytes : List ℕ) → bytes_eq bytes bytes ≡ true
 bytes_same bytes = (bytes_eq-Decides bytes bytes).1 refl

@@ -1,6 +1,6 @@
 -- What becomes of a store holds what was to be stored.
-use Rattle.std.specs.Prelude.{◌≡◌, ℕ, Bool, true, false, nat_le, List, Option, Some, None, Result, Ok, Err, if◌then◌else◌, ⊤}
-use Rattle.std.proofs.Common.{refl, ap, subst}
+use Rattle.std.specs.Prelude.{◌≡◌, ℕ, Bool, true, false, nat_le, Option, Some, None, Result, Ok, Err, if◌then◌else◌, ⊤}
+use Rattle.std.proofs.Common.{refl, subst}
 use Rattle.ob_heap_spec.specs.Contents.{Content}
 use Rattle.ob_store_spec.specs.Between.{changes_between}
 use Rattle.ob_store_spec.specs.Settling.{say_nothing, payload_between, payload_of_all, needed, with_record, may_move, with_move, recorded, settled}

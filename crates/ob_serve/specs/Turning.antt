@@ -1,10 +1,8 @@
 -- The turns of a batch on a store; for private clauses.
-use Rattle.std.specs.Prelude.{ℕ, suc, ◌≡◌, ◌<◌, ◌≤◌, ⊤, Bool, true, false, List, [], ◌++◌, length, map, slice_get, Option, Some, None, Result, Ok, Err}
+use Rattle.std.specs.Prelude.{ℕ, suc, ◌≡◌, ◌<◌, ◌≤◌, ⊤, Bool, true, false, List, [], ◌++◌, length, map, slice_get, Option, Result, Ok, Err}
 use Rattle.ob_code.specs.declared.image.Image.{Image}
 use Rattle.ob_code_table.specs.ImageTables.{table_of_image}
 use Rattle.ob_heap.specs.declared.delta.Delta.{Delta}
-use Rattle.ob_invocation_laws.specs.Laws.{KeepsStoreAtRest}
-use Rattle.ob_invocation_spec.specs.Replies.{Invocation, invoked}
 use Rattle.ob_invocation_spec.specs.Requests as asked
 use Rattle.ob_invocation_spec.specs.Requests.{HasLabels}
 use Rattle.ob_lanes_laws.specs.Laws.{OfEach}

@@ -1,7 +1,6 @@
-use Rattle.std.proofs.Common.{refl, subst}
+use Rattle.std.proofs.Common.{refl}
 use Rattle.ob_code_laws.proofs.Leading.{leads_ahead}
 use Rattle.ob_disk_spec.proofs.Untouched.{untouched_none}
-use Rattle.ob_heap.specs.Contents.{content_of}
 use Rattle.ob_store.specs.Stores.{area_of_store, kept_of, state_of}
 use Rattle.ob_serve.specs.Turning.{batch_on}
 use Rattle.ob_serve.proofs.Progress.{stays_none}

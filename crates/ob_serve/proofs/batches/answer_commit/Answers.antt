@@ -1,4 +1,3 @@
-use Rattle.std.proofs.Common.{refl, sym, ◌∙◌, ap, subst}
 use Rattle.ob_store.specs.Stores.{program_of, area_of_store, state_of}
 use Rattle.ob_store.proofs.Standing.{stands_image}
 use Rattle.ob_serve.specs.Turning.{batch_on}

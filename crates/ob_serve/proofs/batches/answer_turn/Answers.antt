@@ -1,4 +1,4 @@
-use Rattle.std.proofs.Common.{◌≡◌, true, refl, sym, ◌∙◌, ap, subst}
+use Rattle.std.proofs.Common.{◌≡◌, true, sym, subst}
 use Rattle.ob_code_table.specs.ImageTables.{table_of_image}
 use Rattle.ob_heap.specs.Contents.{Stored, content_of}
 use Rattle.ob_owners.specs.Indexes.{told_owner}

@@ -1,4 +1,4 @@
-use Rattle.std.proofs.Common.{◌≡◌, ◌-◌, ◌<◌, suc, length, refl, sym, ◌∙◌, ap, subst, arith}
+use Rattle.std.proofs.Common.{◌-◌}
 use Rattle.ob_store.specs.Stores.{area_of_store, state_of}
 use Rattle.ob_serve.specs.Turning.{batch_on}
 use Rattle.ob_serve.proofs.Commits.{turns_go, turns_end, turns_stop, fewer_turns, entries_enough, as_last, as_goes}

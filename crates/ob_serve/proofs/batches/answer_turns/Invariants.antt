@@ -1,4 +1,4 @@
-use Rattle.std.proofs.Common.{ℕ, ◌-◌, suc, List, length}
+use Rattle.std.proofs.Common.{◌-◌, suc, List, length}
 use Rattle.ob_store.specs.Stores.{area_of_store, state_of}
 use Rattle.ob_wire.specs.declared.request.Request.{Request}
 use Rattle.ob_serve.specs.Batches.{enough_turns}

@@ -1,10 +1,8 @@
-use Rattle.std.proofs.Common.{sym, subst}
+use Rattle.std.proofs.Common.{subst}
 use Rattle.std.specs.Prelude.{Some, None}
-use Rattle.ob_heap.specs.Deltas.{IsDelta}
-use Rattle.ob_heap.specs.declared.delta.Delta.{Delta}
 use Rattle.ob_store.specs.Stores.{program_of, kept_of}
 use Rattle.ob_serve.specs.Stops.{IsOfDelta}
-use Rattle.ob_serve.proofs.Turning.{told, few_handles, delta_is, told_some, told_none, nothing_is_delta}
+use Rattle.ob_serve.proofs.Turning.{few_handles, delta_is, told_some, told_none, nothing_is_delta}
 use Rattle.ob_serve.proofs.batches.tell_lanes.Goals as goal
 
 pub committed-requires-clause-few : goal.committed-requires-clause-few

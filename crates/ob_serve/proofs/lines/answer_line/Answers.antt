@@ -1,7 +1,6 @@
 use Rattle.std.proofs.Common.{◌∙◌, sym}
-use Rattle.std.specs.Prelude.{Ok, Err}
+use Rattle.std.specs.Prelude.{Ok}
 use Rattle.ob_store.specs.Stores.{area_of_store, state_of}
-use Rattle.ob_wire.specs.declared.refusal.Refusal.TheVariants.{LongLine}
 use Rattle.ob_serve.specs.Items.{by_machine}
 use Rattle.ob_serve.proofs.LineItems.{same_answers, long_items, blank_items, text_items}
 use Rattle.ob_serve.proofs.Progress.{answered_none}

@@ -1,14 +1,12 @@
-use Rattle.std.proofs.Common.{◌≡◌, ◌+◌, ◌≤◌, false, [], refl, sym, ◌∙◌, ap, arith}
+use Rattle.std.proofs.Common.{◌+◌, refl, ◌∙◌, arith}
 use Rattle.std.specs.Prelude.{Ok, Err}
 use Rattle.ob_io.proofs.LinesLemmas.{nothing_held}
-use Rattle.ob_store.specs.Stores.{program_of, area_of_store, state_of}
+use Rattle.ob_store.specs.Stores.{area_of_store}
 use Rattle.ob_disk_spec.proofs.Behind.{behind_none}
 use Rattle.ob_disk_spec.proofs.Untouched.{untouched_none}
 use Rattle.ob_serve.specs.Items.{by_machine, items_of_line}
-use Rattle.ob_serve.specs.Session.{items_from}
-use Rattle.ob_serve.specs.Standing.{StandsForStore}
 use Rattle.ob_serve.specs.Stops.{reader}
-use Rattle.ob_serve.proofs.Committed.{stands_through, stands_now, no_disk_stop}
+use Rattle.ob_serve.proofs.Committed.{no_disk_stop}
 use Rattle.ob_serve.proofs.Steps.{moment}
 use Rattle.ob_serve.proofs.Progress.{reads_none, reads_more, reached, none_taken, more_taken, few_taken, answered_none, line_here, line_answered, line_stopped, stop_there, stop_counts, stopped_here, gives_up_first}
 use Rattle.ob_serve.proofs.serving.serve_lines.Goals as goal

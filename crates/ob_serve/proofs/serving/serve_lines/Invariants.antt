@@ -1,4 +1,4 @@
-use Rattle.std.proofs.Common.{◌≡◌, ◌-◌, ◌^◌, ℕ}
+use Rattle.std.proofs.Common.{◌≡◌, ◌-◌, ◌^◌}
 use Rattle.ob_io.specs.Lines.{EndIsTold, pending, taken, handed, has_ended}
 use Rattle.ob_store.specs.Stores.{area_of_store, state_of}
 use Rattle.ob_serve.specs.Items.{by_machine, items_of_line}
