@@ -4,8 +4,8 @@
   python3 docs/cases.py [--program PROGRAM] [--asked CASE_PROGRAM] [SHEET | SHEET:WORDS]..
   python3 docs/cases.py [--program PROGRAM] [--asked CASE_PROGRAM] --answer < SHEET
 
-It runs the sheets of `crates/ob_conformance/data/index.txt`, or those that are named alone; with `SHEET:WORDS` the cases of that sheet whose
-title has these words. The program is the one that the gate has left in `crates/obsidian/out`, if none is named. What it doesn't show is asked
+It runs the sheets of `crates/ob_conformance/data/index.txt` but for those that the index marks `named`, or those that are named alone; with
+`SHEET:WORDS` the cases of that sheet whose title has these words. The program is the one that the gate has left in `crates/obsidian/out`, if none is named. What it doesn't show is asked
 of the case program, which the gate has left in `crates/ob_conformance/out`; if none is named, it is the one that the same compiler has made.
 It says of each sheet how many cases agree, shows those that don't, and ends with how many agree of all. The status is 1 where one
 doesn't agree, where a sheet can't be read, or where a sheet of the folder isn't in the index just once. With `--answer` it reads a sheet
@@ -36,6 +36,8 @@ CASE_PROGRAM = os.path.join(TOP, "crates", "ob_conformance", "out", "ob_conforma
 BY_RATTLE = ".by-rattle"
 # What stands before a sheet's name in the index: the program that is asked what its cases ask.
 PROGRAMS = (b"obsidian ", b"ob_conformance ")
+# What stands before that where a sheet takes so long that it is run only where it is named.
+NAMED = b"named "
 # How many bytes are shown of what was wanted and of what came.
 MOST_SHOWN = 4000
 # After how many seconds a process is cut, and the case program, which is asked many questions at once.
@@ -198,13 +200,15 @@ class Sheet:
 
 
 def sheets_of_index():
-    """The names of the sheets of each program, as the index has them; each sheet of the folder stands there once."""
-    lines = read("index.txt").split(b"\n")
+    """The names of the sheets of each program, as the index has them, and of those that are run only where they are named. Each sheet of the
+    folder stands in the index once."""
+    marked_lines = read("index.txt").split(b"\n")
+    lines = [line.removeprefix(NAMED) for line in marked_lines]
     found = {program: [line[len(program):].decode() for line in lines if line.startswith(program)] for program in PROGRAMS}
     there = sorted(name for name in os.listdir(DATA) if name.endswith(".txt") and name != "index.txt")
     if sorted(name for names in found.values() for name in names) != there:
         raise Trouble("the index doesn't name each sheet of the folder once, behind the program that is asked")
-    return found
+    return found, {line.split()[-1].decode() for line in marked_lines if line.startswith(NAMED)}
 
 
 # ---- runs
@@ -464,7 +468,7 @@ class Shelf(Room):
         """A run that tells of the store, which stays as it is."""
         before = self.store()
         ended = self.ended = self.run([b"audit", b"p", b"s"], b"")
-        remark = b"" if before == self.store() else b", the file has changed"
+        remark = b"" if before == self.store() else b", the store has changed"
         return b" " + ended.end() + b" " * bool(ended.output) + b", ".join(ended.output.splitlines()) + remark
 
     def edit(self, old, new):
@@ -615,8 +619,8 @@ def report(topic, cases, come):
 
 def chosen(names):
     """The sheets that are asked for, each with its cases."""
-    sheets = sheets_of_index()
-    asked = names or [name[: -len(".txt")] for program in PROGRAMS for name in sheets[program]]
+    sheets, only_named = sheets_of_index()
+    asked = names or [name[: -len(".txt")] for program in PROGRAMS for name in sheets[program] if name not in only_named]
     found = []
     for name in asked:
         topic, _, words = name.removesuffix(".txt").partition(":")

@@ -730,6 +730,12 @@ def served_shown(answer, awaited, faults):
     return f"serve {number} {word}{remark}".encode() + lines_shown(output, output.count(b"\n") if awaited.startswith(output) else None)
 
 
+def audit_shown(ended, is_kept):
+    """How an audit ended, and its lines."""
+    remark = b"" if is_kept else b", the store has changed"
+    return b"audit " + ended.end() + b" " * bool(ended.output) + b", ".join(ended.output.splitlines()) + remark
+
+
 class Shelf:
     """A case's program and lines, and the steps of its runs over one disk, each as a question and with how its answer is told."""
 
@@ -750,7 +756,8 @@ class Shelf:
         if self.size:
             self.serve_in_areas(given, awaited)
         else:
-            self.run_words(given, awaited)
+            told_of = lambda ended: b"serve " + ended.end() + lines_shown(ended.output, ended.first_lines(awaited))
+            self.run_words([b"serve", *self.options.words, b"p", b"s"], given, told_of)
 
     def serve_in_areas(self, given, awaited):
         """Only opens the store and serves the lines, in areas of the size that was told."""
@@ -758,14 +765,19 @@ class Shelf:
         self.add(asked, lambda answer: setattr(self, "run", answer))
         self.add("faults", lambda answer: served_shown(self.run, awaited, answer.number() - self.faults))
 
-    def run_words(self, given, awaited):
-        words = [b"serve", *self.options.words, b"p", b"s"]
+    def run_words(self, words, given, told):
         run, self.given = f"run {handed(words, self.case.part(b'text'), given)} {self.given.numbers()} {self.given.room}", Outside()
         self.add(run, lambda answer: setattr(self, "run", answer))
-        self.add("faults", lambda answer: self.told(Ended(self.run, given, words, False, answer.number() - self.faults), awaited))
+        self.add("faults", lambda answer: told(Ended(self.run, given, words, False, answer.number() - self.faults)))
 
-    def told(self, ended, awaited):
-        return b"serve " + ended.end() + lines_shown(ended.output, ended.first_lines(awaited))
+    def audit(self):
+        """A run that tells of the store, and leaves the bytes of the disk as they are."""
+        if self.size:
+            raise Unasked("an audit has areas of 64 MiB")
+        self.add("faults", lambda answer: setattr(self, "faults", answer.number()))
+        self.add("show", lambda answer: setattr(self, "before", answer.word()))
+        self.run_words([b"audit", *self.options.words, b"p", b"s"], b"", lambda ended: setattr(self, "audited", ended))
+        self.add("show", lambda answer: audit_shown(self.audited, answer.word() == self.before))
 
     def take(self, step):
         word, _, rest = step.partition(" ")
@@ -783,6 +795,8 @@ class Shelf:
             self.given = Outside(rest.encode())
         elif word == "serve":
             self.serve(rest)
+        elif word == "audit":
+            self.audit()
         elif word == "show":
             self.add("show", lambda answer: b"show " + told(answer.bytes()).encode())
         elif word == "records":
