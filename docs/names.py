@@ -12,6 +12,7 @@ It reads README.md, the documents of docs/ but for those that scripts make of th
 - each name in backticks that stands in parentheses, alone or with others: a source has to declare it, as a function, a type, a definition, a
   clause, a field or a case
 - each name of a crate, in backticks or not, as ob_base
+- each sheet of cases with words behind a colon, all in backticks: these have to be the title of a case in it
 - each link: its file, and the heading that it leads to
 
 A name of another's is one that some source uses, and so is here. Names in the document's own blocks of code are those of programs of the
@@ -38,6 +39,7 @@ NAME = re.compile(r"[A-Za-z_][A-Za-z0-9_]*$")
 PATH = re.compile(rf"[\w.][\w./-]*\.(?:{'|'.join(ENDINGS)})(?![\w-])")
 OF_CRATE = re.compile(r"((?:`\w+`(?:,| and)? )+)of (ob_\w+)")
 HEAD = re.compile(r"#+ (ob_[a-z_]+(?:, ob_[a-z_]+)*)$")
+CASE = re.compile(r"(\w+\.txt):(.+)")
 LINK = re.compile(r"\[[^\]]*\]\(([^)#\s]*)(?:#([^)\s]*))?\)")
 ASIDE = re.compile(r"\(((?:`[A-Za-z_]{3,}`(?:, | and )?)+)[),;:]")
 DECLARED = {
@@ -90,6 +92,11 @@ class Repository:
             if parts[0] == "crates":
                 self.by_crate[parts[1]] |= found
         self.spoken = {word for crate in SPOKEN for word in quoted(crate)}
+
+    def has_case(self, sheet, title):
+        """Whether a sheet has a case of this title."""
+        places = [place for place in self.files if place.endswith("/data/" + sheet)]
+        return any(line.partition(" ")[2] == title for place in places for line in (TOP / place).read_text(errors="replace").split("\n"))
 
     def has_path(self, path, crates):
         """Whether a path is there, under one of these crates if any are named, or in a folder anywhere else."""
@@ -157,6 +164,9 @@ class Document:
         for path in paths:
             if not self.repository.has_path(path, crates):
                 self.note(number, f"no file {path}" + (f" in {', '.join(sorted(crates))}" if crates else ""))
+        case = CASE.fullmatch(span)
+        if case and not self.repository.has_case(*case.groups()):
+            self.note(number, f"no case of {case[1]} has the title {case[2]}")
         if not paths and re.match(r"[\w:.]+(?:\(\))?$", span):
             for name in re.split(r"::|\.", span.removesuffix("()")):
                 self.name(number, name)

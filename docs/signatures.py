@@ -13,7 +13,7 @@ import sys
 TOP = pathlib.Path(__file__).resolve().parent.parent
 DOCUMENT = TOP / "docs" / "CLAIMS.md"
 BEGIN, END = "<!-- calls without memory -->\n", "<!-- end of the calls without memory -->\n"
-# The crates, their files and the calls; of a file without names every public call.
+# The crates, their files and the calls; of a crate without names every public call but its laws, which run nothing.
 CALLS = (
     ("ob_perm", None, ()),
     ("ob_machine_parts", "guard", ("leave", "unlock", "may_change", "busy")),
@@ -34,7 +34,8 @@ WANTS = re.compile(r"\balloc\b|\bGlobal\b|\bMemory\b|\w*Error\b")
 def signatures(crate, file, names):
     """The calls of a file, or of all files of a crate, each with its signature on one line."""
     files = sorted((TOP / "crates" / crate / "src").glob("*.rt")) if file is None else [TOP / "crates" / crate / "src" / f"{file}.rt"]
-    found = {call[1]: " ".join(call[2].split()) for path in files for call in CALL.finditer(path.read_text()) if not names or call[1] in names}
+    calls = [call for path in files for call in CALL.finditer(path.read_text()) if not call[1].endswith("_laws")]
+    found = {call[1]: " ".join(call[2].split()) for call in calls if not names or call[1] in names}
     for name in set(names) - set(found):
         sys.exit(f"signatures.py: {crate} has no public call `{name}` in {file}.rt")
     return found
