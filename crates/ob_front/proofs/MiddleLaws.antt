@@ -1,6 +1,6 @@
 -- Bodies have one list of terms at most, and one first fault.
 use native.Mathlib.Omega.{arith}
-use Rattle.std.proofs.Common.{◌≡◌, ℕ, suc, List, [], ◌∷◌, Option, Some, None, Result, Ok, Err, refl, sym, ap, ◌∙◌}
+use Rattle.std.proofs.Common.{◌≡◌, ℕ, suc, List, [], ◌∷◌, Some, None, Result, Ok, Err, refl, sym, ap, ◌∙◌}
 use Rattle.std.specs.Prelude.{All, IsOk}
 use Rattle.std.specs.Option.{option_or}
 use Rattle.std.specs.Result.{result_err}

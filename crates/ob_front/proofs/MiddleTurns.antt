@@ -1,12 +1,13 @@
 -- A loop's turn over bodies.
 use native.Mathlib.Omega.{arith}
-use Rattle.std.proofs.Common.{◌≡◌, ℕ, List, [], ◌∷◌, ◌++◌, Option, Some, None, Result, Ok, Err, map, refl, sym, ap, ◌∙◌, subst, length, take, drop, get_or, suc, ◌<◌, ◌≤◌, ◌+◌, add-one, drop-cons}
+use Rattle.std.proofs.Common.{◌≡◌, ℕ, List, [], ◌∷◌, ◌++◌, Option, None, Result, Ok, Err, map, refl, sym, ap, ◌∙◌, subst, length, take, drop, get_or, suc, ◌<◌, ◌≤◌, ◌+◌, ◌-◌, add-one, drop-cons}
 use Rattle.std.specs.Prelude.{All, IsOk}
-use Rattle.std.specs.Option.{option_or}
+use Rattle.std.specs.List.{AllWithin}
+use Rattle.std.specs.Option.{option_or, option_map}
 use Rattle.std.specs.Result.{result_err}
-use Rattle.std.proofs.lemmas.List.{take_more, map-append, get_or-map, length-map, drop_all, take_all}
-use Rattle.std.proofs.lemmas.List.Elements.{All-cons}
-use Rattle.ob_base.specs.Faults.{limit}
+use Rattle.std.proofs.lemmas.List.{take_more, map-append, get_or-map, get_or-drop, length-map, length-drop, drop_all, take_all}
+use Rattle.std.proofs.lemmas.List.Elements.{All-cons, AllWithin-more}
+use Rattle.std.proofs.lemmas.Option.{slice_get-map, slice_get_read, slice_get_within, get_or_from_slice_get}
 use Rattle.ob_base.specs.declared.fault.Span.{Span}
 use Rattle.ob_base.specs.declared.fault.ProgramFault.{ProgramFault}
 use Rattle.ob_table.specs.Statements.{ResolvedBody}
@@ -22,7 +23,7 @@ use Rattle.ob_base.specs.declared.text_error.TextError.{TextError}
 use Rattle.ob_base.specs.declared.text_error.TextError.TheVariants.{Fault, Memory}
 use Rattle.ob_flow_spec.specs.Deriving.{derive_body, Derives, IsFlowFault}
 use Rattle.ob_flow_spec.specs.Numbered.{AllNameStates}
-use Rattle.ob_front.specs.Checked.{AllNumbered, first_flow_fault, FailsPremise}
+use Rattle.ob_front.specs.Checked.{AllNumbered, first_flow_fault, FailsPremise, IsNextFault}
 use Rattle.ob_front.proofs.MiddleLaws.{no_error}
 use Rattle.ob_front.specs.Lowered.{IsLoweredTo, AreLoweredTo, first_slot_past, LacksSlots}
 
@@ -96,11 +97,16 @@ fails_here table xs i x (Fault fault) h is left has =
     ∙ ap (λ r. option_or (result_err r) (first_flow_fault table (map silica_body_of (drop (i + 1) xs)))) has
 fails_here table xs i x Memory h is left has = tt
 
+-- the body that is read at a place is the one there
+body_at : (xs : List TermBody) (i : ℕ) (x : TermBody) (d : SilicaBody) → i < length xs → x ≡ get_or xs i x
+    → get_or (map silica_body_of xs) i d ≡ silica_body_of x
+body_at xs i x d h is = get_or-map silica_body_of xs i x d h ∙ ap silica_body_of (sym is)
+
 -- what holds of all bodies holds of the one at a place
 pub numbered_at : (xs : List TermBody) (i : ℕ) (x : TermBody) → i < length xs → x ≡ get_or xs i x
     → AllNumbered (map silica_body_of xs) → AllNameStates (terms_of x.terms)
 numbered_at xs i x h is all =
-    subst (λ (b : SilicaBody). AllNameStates b.terms) (get_or-map silica_body_of xs i x (silica_body_of x) h ∙ ap silica_body_of (sym is))
+    subst (λ (b : SilicaBody). AllNameStates b.terms) (body_at xs i x (silica_body_of x) h is)
     (all i (silica_body_of x) (subst (λ n. i < n) (sym (length-map xs silica_body_of)) h))
 
 -- bodies without a fault derive
@@ -121,6 +127,52 @@ pub end_derives : (table : ClassTable) (xs : List TermBody) (i : ℕ) → length
     → first_flow_fault table (map silica_body_of (drop i xs)) ≡ first_flow_fault table (map silica_body_of xs) → All (Derives table) (map silica_body_of xs)
 end_derives table xs i h left =
     all_derive table (map silica_body_of xs) (sym left ∙ ap (λ bs. first_flow_fault table (map silica_body_of bs)) (drop_all i xs h))
+
+-- Checking from a number on.
+
+-- one body more derives
+pub more_derive : (table : ClassTable) (xs : List TermBody) (from i : ℕ) (x : TermBody) → i < length xs → x ≡ get_or xs i x
+    → Derives table (silica_body_of x) → AllWithin (Derives table) (map silica_body_of xs) from i
+    → AllWithin (Derives table) (map silica_body_of xs) from (i + 1)
+more_derive table xs from i x h is derives before =
+    AllWithin-more (Derives table) (map silica_body_of xs) from i before
+    (λ d. subst (Derives table) (sym (body_at xs i x d h is)) derives)
+
+-- the first body that doesn't
+pub next_here : (table : ClassTable) (xs : List TermBody) (from i : ℕ) (x : TermBody) (fault : ProgramFault) → i < length xs → x ≡ get_or xs i x
+    → from ≤ i → AllWithin (Derives table) (map silica_body_of xs) from i → IsFlowFault table (silica_body_of x) fault
+    → IsNextFault table (map silica_body_of xs) from i fault
+next_here table xs from i x fault h is reached before fails = record {
+  reached = reached;
+  body = silica_body_of x;
+  at = slice_get-map silica_body_of xs i ∙ ap (option_map silica_body_of) (slice_get_read xs (length xs) i x refl h is);
+  fails = fails;
+  before = before;
+}
+
+-- where all derive, no body has a fault
+no_fault : {A E : Type 0} (r : Result A E) (e : E) → IsOk r → ¬ (r ≡ Err e)
+no_fault (Ok x) e ok is = cc
+no_fault (Err x) e ok is = cc
+
+pub next_or_all : (table : ClassTable) (bodies : List SilicaBody) (from number : ℕ) (fault : ProgramFault)
+    → IsNextFault table bodies from number fault → ¬ (All (Derives table) (drop from bodies))
+next_or_all table bodies from number fault next all =
+    let within = slice_get_within bodies number next.body next.at in
+    let later : number - from < length (drop from bodies) = omega (arith, next.reached, within, length-drop from bodies) in
+    let place : from + (number - from) ≡ number = omega (arith, next.reached) in
+    let same : get_or (drop from bodies) (number - from) next.body ≡ next.body =
+    get_or-drop from bodies (number - from) next.body ∙ ap (λ n. get_or bodies n next.body) place
+    ∙ get_or_from_slice_get bodies number next.body next.body next.at in
+    no_fault (derive_body table next.body) fault (subst (Derives table) same (all (number - from) next.body later)) next.fails
+
+-- all of them derive
+pub rest_derives : (table : ClassTable) (xs : List TermBody) (from i : ℕ) → length xs ≤ i
+    → AllWithin (Derives table) (map silica_body_of xs) from i → All (Derives table) (drop from (map silica_body_of xs))
+rest_derives table xs from i h before = λ k d less.
+    let many : length (map silica_body_of xs) ≡ length xs = length-map xs silica_body_of in
+    let within : from + k < i = omega (arith, h, less, many, length-drop from (map silica_body_of xs)) in
+    subst (Derives table) (sym (get_or-drop from (map silica_body_of xs) k d)) (before (from + k) d (omega arith) within)
 
 -- Ends.
 

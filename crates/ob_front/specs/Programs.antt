@@ -1,4 +1,4 @@
--- What all stages that are built find in a text: a program whose bodies are lowered and checked, or its first fault.
+-- What all stages find in a text: a program whose bodies are lowered and checked, or its first fault.
 use Rattle.std.specs.Prelude.{ℕ, ◌≤◌, List, All}
 use Rattle.ob_base.specs.declared.fault.ProgramFault.{ProgramFault}
 use Rattle.ob_table.specs.Tables.{ClassTable}
@@ -30,7 +30,7 @@ pub record IsProgram (text : List ℕ) (table : ClassTable) (bodies : List Silic
   pub checked : IsChecked text table bodies
   pub light : weight table bodies ≤ most_weight
 
--- no stage that is built finds a fault in the text: it is a program
+-- the text is a program: no stage finds a fault in it
 pub record IsAccepted (text : List ℕ) : Type 0 where
   pub table : ClassTable
   pub bodies : List SilicaBody

@@ -1,10 +1,10 @@
 //! The check of permissions over the bodies of a class table.
-ghost use Rattle.std.specs.Prelude.{map, All, IfOk, IfErr};
+ghost use Rattle.std.specs.Prelude.{◌↔◌, map, drop, All, IfOk, IfErr, IfSome, IsNone};
 ghost use Rattle.ob_silica.specs.TermsView.{silica_body_of};
 ghost use Rattle.ob_table_spec.specs.Conditions.{IsClassTable};
 ghost use Rattle.ob_flow_spec.specs.Deriving.{Derives};
 ghost use Rattle.ob_base.specs.TextErrors.{OnFault};
-ghost use Rattle.ob_front.specs.Checked.{AllNumbered, FailsPremise};
+ghost use Rattle.ob_front.specs.Checked.{AllNumbered, FailsPremise, IsNextFault};
 
 use ob_base::{Memory, ProgramFault};
 use ob_flow::{FlowError, Trace, check};
@@ -30,7 +30,8 @@ pub fn check_bodies(
     Ok(())
 }
 
-/// The number and the fault of the first of these bodies, from a number on, that doesn't derive.
+/// The first of these bodies, from a number on, that doesn't derive: its number, and its fault, that of the first premise that fails
+/// in it. `None` where each body from that number on derives. Where one is found, the trace tells what was known there.
 pub fn next_fault(
     alloc: Global,
     table: &Table,
@@ -40,17 +41,17 @@ pub fn next_fault(
 ) -> Result<Option<(usize, ProgramFault)>, Memory>
     requires table { IsClassTable table.now }
     requires states { AllNumbered (map silica_body_of bodies.now) }
+    ensures found { IfOk result (λ next. IfSome next
+        (λ found. IsNextFault table.now (map silica_body_of bodies.now) from found.0 found.1)) }
+    ensures none { IfOk result (λ next. IsNone next
+        ↔ All (Derives table.now) (drop from (map silica_body_of bodies.now))) }
 {
-    let mut number: usize = 0;
-    for body in bodies {
-        if number >= from {
-            match check(alloc, table, body, trace) {
-                Ok(()) => {}
-                Err(FlowError::Fault(fault)) => return Ok(Some((number, fault))),
-                Err(FlowError::Memory) => return Err(Memory),
-            }
+    for number in from..bodies.len() {
+        match check(alloc, table, &bodies[number], trace) {
+            Ok(()) => {}
+            Err(FlowError::Fault(fault)) => return Ok(Some((number, fault))),
+            Err(FlowError::Memory) => return Err(Memory),
         }
-        number = number.saturating_add(1);
     }
     Ok(None)
 }

@@ -5,7 +5,6 @@ ghost use Rattle.ob_silica.specs.Terms.{SilicaBody};
 ghost use Rattle.ob_silica.specs.TermsView.{silica_body_of};
 ghost use Rattle.ob_table.specs.Tables.{ClassTable};
 ghost use Rattle.ob_code.specs.Images.{image};
-ghost use Rattle.ob_code.specs.declared.image.Image.{Image};
 ghost use Rattle.ob_coherent_spec.specs.Remaining.{IsCheckedProgram};
 ghost use Rattle.ob_emit_spec.specs.EmittedImages.{image_of};
 ghost use Rattle.ob_silica_steps.specs.Configurations.{SilicaProgram};
@@ -65,7 +64,8 @@ impl Duplicate for Compiled {
 }
 
 /// The class table of a text and the terms of its bodies, or its first fault: one that `class_table` tells, or `LIMIT` where a
-/// body needs more slots than it may have. The permission rules aren't asked.
+/// body needs more slots than it may have. The permission rules aren't asked. The tokens, the tree and the tree of its instances stay in
+/// what was seen.
 pub fn lowered(alloc: Global, text: &[u8], seen: &mut Seen) -> Result<LoweredProgram, CompileError>
     ensures terms { IfOk result (λ c. HasTerms text.now c.table (map silica_body_of c.bodies)) }
     ensures fault { IfErr result (λ e. OnFault e (HasTermsFault text.now)) }

@@ -68,15 +68,15 @@ impl AskedProgram {
 /// the text is only checked, and the places where it lets go of assets.
 #[derive(Drop)]
 pub struct Seen {
-    /// Its tokens, if it has a fault behind them.
+    /// Its tokens, if it has some and isn't accepted.
     pub lexed: Option<Lexed>,
-    /// Its tree as it is written, if it has a fault behind it.
+    /// Its tree as it is written, if it has one and isn't accepted.
     pub tree: Option<Tree>,
-    /// The tree of its instances, if it has a fault behind that.
+    /// The tree of its instances, if it has one and isn't accepted.
     pub instances: Option<Tree>,
     /// Its class table, if it is accepted and was only checked.
     pub table: Option<Table>,
-    /// Its program, if a premise of the permission rules fails.
+    /// Its program, if a premise of the permission rules fails, or memory runs out while they are asked.
     pub asked: Option<AskedProgram>,
     /// What the check of permissions knew.
     pub trace: Trace,

@@ -18,7 +18,7 @@ use ob_table::Table;
 use ob_tree::Tree;
 use std::alloc::Global;
 
-/// Why a text has no program: what is told of it is its first fault.
+/// Why a text has no tree, no class table or no program: its fault is the text's first one.
 pub type CompileError = TextError;
 
 /// The tree of a text, or the first fault of its tokens or of the grammar.
