@@ -8,7 +8,7 @@ use Rattle.ob_request_run_laws.specs.Slices.{slice, slices}
 use Rattle.ob_wire.specs.declared.request.Request.{Request}
 use Rattle.ob_wire.specs.Meanings.{request_of}
 use Rattle.ob_exec.specs.Pausing.{StandsFor, IsRunOn, Leads, run_of}
-use Rattle.ob_exec.specs.declared.runs.Ended.TheVariants.{Going}
+use Rattle.ob_exec.specs.declared.runs.SliceOutcome.TheVariants as slice_outcome
 use Rattle.ob_exec.specs.declared.runs.Run.{Run as CodeRun}
 
 -- one slice more is the last of all
@@ -18,19 +18,19 @@ slices_then image fuel c [] units r = refl
 slices_then image fuel c (n ∷ given) units r = slices_then image fuel c given units (slice image fuel c n r)
 
 -- a run that needs a unit past its slice stands for the plain one after it
-pub going_stands : (image : Image) (base : Stored) (r : Run) (run : CodeRun) → Leads image base r run Going → StandsFor image base r run.state
-going_stands image base (opened q) run h = absurd h
-going_stands image base (paused q reads p held) run h = h
-going_stands image base (answered a) run h = absurd h
-going_stands image base lost run h = absurd h
+pub paused_stands : (image : Image) (base : Stored) (r : Run) (run : CodeRun) → Leads image base r run slice_outcome.Paused → StandsFor image base r run.state
+paused_stands image base (opened q) run h = absurd h
+paused_stands image base (paused q reads p held) run h = h
+paused_stands image base (answered a) run h = absurd h
+paused_stands image base lost run h = absurd h
 
 -- so it may have a further slice
 pub goes_on : (image : Image) (fuel : ℕ) (base : Stored) (given : List ℕ) (units : ℕ) (old new : CodeRun) → IsRunOn image fuel base given old.request old.state
-    → Leads image base (slice image fuel (content_of base) units (run_of image fuel base given old.request)) new Going → new.request ≡ old.request
+    → Leads image base (slice image fuel (content_of base) units (run_of image fuel base given old.request)) new slice_outcome.Paused → new.request ≡ old.request
     → IsRunOn image fuel base (given ++ units ∷ []) new.request new.state
 goes_on image fuel base given units old new k h same =
     subst (λ (q : Request). IsRunOn image fuel base (given ++ units ∷ []) q new.state) (sym same) (record {
       stands = subst (λ r. StandsFor image base r new.state) (sym (slices_then image fuel (content_of base) given units (opened (request_of old.request))))
-          (going_stands image base (slice image fuel (content_of base) units (run_of image fuel base given old.request)) new h);
+          (paused_stands image base (slice image fuel (content_of base) units (run_of image fuel base given old.request)) new h);
       limits = k.limits;
     })

@@ -35,7 +35,7 @@ use Rattle.ob_exec.specs.Going.{Asked, Enters, IsAt, tested, sliced_at}
 use Rattle.ob_exec.specs.Pausing.{StandsPaused, StandsAt, StandsFor, LeadsBy, into_of, Leads}
 use Rattle.ob_exec.specs.Putting.{AllStand}
 use Rattle.ob_exec.specs.Standing.{AreUsesRead}
-use Rattle.ob_exec.specs.declared.runs.Ended.TheVariants.{Yes, Going}
+use Rattle.ob_exec.specs.declared.runs.SliceOutcome.TheVariants as slice_outcome
 use Rattle.ob_exec.specs.declared.runs.Run.{Run as CodeRun}
 use Rattle.ob_exec.specs.declared.stage.Paused.{Paused}
 use Rattle.ob_exec.specs.declared.stage.SliceEnd.{SliceEnd}
@@ -241,45 +241,45 @@ never_over image base r st k e = over_never image base r (subst (StandsAt image 
 
 -- What a slice has led to.
 
-going_by : (image : Image) (base : Stored) (r : Run) (s : Paused) (run : CodeRun) → StandsAt image base r (stage.Paused s) → StandsFor image base r run.state
-    → Leads image base r run Going
-going_by image base (opened q) s run at k = absurd at
-going_by image base (paused q reads p h) s run at k = k
-going_by image base (answered a) s run at k = absurd at
-going_by image base lost s run at k = absurd at
+paused_by : (image : Image) (base : Stored) (r : Run) (s : Paused) (run : CodeRun) → StandsAt image base r (stage.Paused s) → StandsFor image base r run.state
+    → Leads image base r run slice_outcome.Paused
+paused_by image base (opened q) s run at k = absurd at
+paused_by image base (paused q reads p h) s run at k = k
+paused_by image base (answered a) s run at k = absurd at
+paused_by image base lost s run at k = absurd at
 
-pub leads_going : (image : Image) (base : Stored) (r : Run) (s : Paused) (st : State) (run : CodeRun) → StandsFor image base r st → st.stage ≡ stage.Paused s
-    → run.state ≡ record { stage = stage.Paused s; reads = st.reads; taken = st.taken } → Leads image base r run Going
-leads_going image base r s st run k e f =
+pub leads_paused : (image : Image) (base : Stored) (r : Run) (s : Paused) (st : State) (run : CodeRun) → StandsFor image base r st → st.stage ≡ stage.Paused s
+    → run.state ≡ record { stage = stage.Paused s; reads = st.reads; taken = st.taken } → Leads image base r run slice_outcome.Paused
+leads_paused image base r s st run k e f =
     let at = subst (StandsAt image base r) e k.at in
-    going_by image base r s run at (subst (StandsFor image base r) (sym f) (record { at = at; reads = k.reads; taken = k.taken }))
+    paused_by image base r s run at (subst (StandsFor image base r) (sym f) (record { at = at; reads = k.reads; taken = k.taken }))
 
-yes_by : (image : Image) (base : Stored) (r : Run) (told : Answered) (st : State) (run : CodeRun) (reply : Reply) → StandsAt image base r (stage.Answered told)
+ended_by : (image : Image) (base : Stored) (r : Run) (told : Answered) (st : State) (run : CodeRun) (reply : Reply) → StandsAt image base r (stage.Answered told)
     → StandsFor image base r st → run.state.reads ≡ st.reads → run.state.taken ≡ st.taken → reply.id ≡ Some run.request.id → reply.answer ≡ told.answer
-    → Leads image base r run (Yes reply told.delta)
-yes_by image base (opened q) told st run reply at k e f id answer = absurd at
-yes_by image base (paused q reads p h) told st run reply at k e f id answer = absurd at
-yes_by image base (answered a) told st run reply at k e f id answer =
+    → Leads image base r run (slice_outcome.Ended reply told.delta)
+ended_by image base (opened q) told st run reply at k e f id answer = absurd at
+ended_by image base (paused q reads p h) told st run reply at k e f id answer = absurd at
+ended_by image base (answered a) told st run reply at k e f id answer =
     (id, (answer ∙ at.0, at.1), subst (ReadSame a.reads) (sym e) k.reads, f ∙ k.taken)
-yes_by image base lost told st run reply at k e f id answer = absurd at
+ended_by image base lost told st run reply at k e f id answer = absurd at
 
-pub leads_yes : (image : Image) (base : Stored) (r : Run) (told : Answered) (st : State) (run : CodeRun) (reply : Reply) → StandsFor image base r st
+pub leads_ended : (image : Image) (base : Stored) (r : Run) (told : Answered) (st : State) (run : CodeRun) (reply : Reply) → StandsFor image base r st
     → st.stage ≡ stage.Answered told → run.state.reads ≡ st.reads → run.state.taken ≡ st.taken → reply.id ≡ Some run.request.id → reply.answer ≡ told.answer
-    → Leads image base r run (Yes reply told.delta)
-leads_yes image base r told st run reply k e f g id answer =
-    yes_by image base r told st run reply (subst (StandsAt image base r) e k.at) k f g id answer
+    → Leads image base r run (slice_outcome.Ended reply told.delta)
+leads_ended image base r told st run reply k e f g id answer =
+    ended_by image base r told st run reply (subst (StandsAt image base r) e k.at) k f g id answer
 
 pub leads_on : (image : Image) (base : Stored) (r : Run) (items : List ReadItem) (taken : ℕ) (s : Stage) (run : CodeRun) → LeadsBy image base r None items taken s
-    → run.state ≡ record { stage = s; reads = items; taken = taken } → Leads image base r run Going
-leads_on image base r items taken (stage.Paused s) run k e = leads_going image base r s (record { stage = stage.Paused s; reads = items; taken = taken }) run k refl e
+    → run.state ≡ record { stage = s; reads = items; taken = taken } → Leads image base r run slice_outcome.Paused
+leads_on image base r items taken (stage.Paused s) run k e = leads_paused image base r s (record { stage = stage.Paused s; reads = items; taken = taken }) run k refl e
 leads_on image base r items taken (stage.Answered told) run k e = absurd k
 leads_on image base r items taken stage.Over run k e = absurd k
 
 pub leads_to_end : (image : Image) (base : Stored) (r : Run) (told : Answered) (items : List ReadItem) (taken : ℕ) (s : Stage) (run : CodeRun) (reply : Reply)
     → LeadsBy image base r (Some told) items taken s → run.state.reads ≡ items → run.state.taken ≡ taken → reply.id ≡ Some run.request.id → reply.answer ≡ told.answer
-    → Leads image base r run (Yes reply told.delta)
+    → Leads image base r run (slice_outcome.Ended reply told.delta)
 leads_to_end image base r told items taken s run reply k e f id answer =
-    leads_yes image base r told (record { stage = stage.Answered told; reads = items; taken = taken }) run reply k refl e f id answer
+    leads_ended image base r told (record { stage = stage.Answered told; reads = items; taken = taken }) run reply k refl e f id answer
 
 -- Which stage it is.
 

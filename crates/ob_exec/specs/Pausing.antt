@@ -30,8 +30,8 @@ use Rattle.ob_exec.specs.declared.stage.Stage.TheVariants as stage
 use Rattle.ob_exec.specs.declared.stage.SliceEnd.{SliceEnd}
 use Rattle.ob_exec.specs.declared.stage.State.{State}
 use Rattle.ob_exec.specs.declared.runs.Run.{Run}
-use Rattle.ob_exec.specs.declared.runs.Ended.{Ended}
-use Rattle.ob_exec.specs.declared.runs.Ended.TheVariants.{Yes, Going}
+use Rattle.ob_exec.specs.declared.runs.SliceOutcome.{SliceOutcome}
+use Rattle.ob_exec.specs.declared.runs.SliceOutcome.TheVariants as slice_outcome
 
 -- The code's run is paused where a plain one is, on what a store holds: in the same place, with the same objects, and with the uses of
 -- handles of what the request enters. What it has changed of the store's objects it has read.
@@ -83,9 +83,9 @@ into_of op = None
 
 -- What a slice leads to: the reply of the run's end and what differs in the store, once it has read and taken all; or the run, where it
 -- needs a unit past the slice.
-abbrev pub Leads : Image → Stored → plain.Run → Run → Ended → Type 0
-Leads image base (paused q reads p h) run Going = StandsFor image base (paused q reads p h) run.state
-Leads image base (answered a) run (Yes reply delta) =
+abbrev pub Leads : Image → Stored → plain.Run → Run → SliceOutcome → Type 0
+Leads image base (paused q reads p h) run slice_outcome.Paused = StandsFor image base (paused q reads p h) run.state
+Leads image base (answered a) run (slice_outcome.Ended reply delta) =
     (reply.id ≡ Some run.request.id) × ComesTo (invoked (invoked_by (content_of base) a)) base reply.answer delta
     × ReadSame a.reads run.state.reads × (run.state.taken ≡ a.taken)
-Leads image base r run ended = ⊥
+Leads image base r run outcome = ⊥

@@ -75,6 +75,7 @@ pub fn answer<I: Index>(
     ensures answer { IfOk result (λ a. ComesTo (machine_invocation code.now (content_of content.now) (request_of request.now) fuel) content.now a.0.answer a.1) }
     ensures spent { IfOk result (λ a. SpendsSo (machine_invocation code.now (content_of content.now) (request_of request.now) fuel) a.2) }
 {
+    // `image` says that the code is verified.
     let _image = code.image();
     let mut stage = Stage::Over;
     let end = open(

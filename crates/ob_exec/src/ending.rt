@@ -13,10 +13,9 @@ ghost use Rattle.ob_invocation_spec.specs.Showing.{told_state, reply_of_result};
 ghost use Rattle.ob_wire.specs.Meanings.{answer_of};
 ghost use Rattle.ob_exec_handles.specs.Coming.{ComesTo};
 
-use crate::puts::Named;
 use ob_base::{Items, Memory};
 use ob_code::Image;
-use ob_exec_handles::{Answered, delta_with, state_told, unchanged};
+use ob_exec_handles::{Answered, Named, delta_with, state_told, unchanged};
 use ob_heap::{Content, Overlay, Value};
 use ob_machine::Cause;
 use ob_wire::{Answer, Cause as Told, Outcome};

@@ -19,4 +19,4 @@ mod still;
 
 pub use answering::answer;
 pub use laws::{first_slices_may_be_empty, paused_runs_stand_elsewhere};
-pub use runs::{Ended, Run};
+pub use runs::{Run, SliceOutcome};

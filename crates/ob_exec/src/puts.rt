@@ -6,19 +6,15 @@ ghost use Rattle.ob_heap.specs.Overlays.{objects_over};
 ghost use Rattle.ob_heap.specs.Plain.{handle_of, value_of};
 ghost use Rattle.ob_heap_spec.specs.Handles.{NamedHandle, handle_at};
 ghost use Rattle.ob_invocation_spec.specs.Handles.{handle_name};
-ghost use Rattle.ob_invocation_spec.specs.Entering.{handle_in, put_after_use, put_given};
+ghost use Rattle.ob_invocation_spec.specs.Entering.{put_after_use, put_given};
 ghost use Rattle.ob_exec_entries.specs.Entering.{use_of};
-ghost use Rattle.ob_exec_handles.specs.Marking.{is_marked};
-ghost use Rattle.ob_exec_handles.specs.declared.marking.Mark.TheVariants.{Shared as SharedMark};
 ghost use Rattle.ob_exec.specs.Putting.{put_in, stays_as, AllStand, LeaveTheSame};
 
-use ob_base::{Duplicate, Items, Label, Memory, Mode, ObjectId};
+use ob_base::{Items, Label, Memory, Mode};
 use ob_exec_entries::HandleUse;
+use ob_exec_handles::{Mark, Named, handle_on, is_marked};
 use ob_heap::{Content, Handle, Overlay, Value};
 use std::alloc::Global;
-
-/// A handle with its name.
-pub type Named = ((Label, Label), Handle);
 
 // The mode that the handle of a use becomes, if it changes.
 fn mode_after(used: &HandleUse) -> Option<Mode>
@@ -35,37 +31,13 @@ fn mode_after(used: &HandleUse) -> Option<Mode>
     }
 }
 
-// A client's handle in a mode.
-fn handle_in(
-    alloc: Global,
-    who: &Label,
-    name: &Label,
-    object: ObjectId,
-    mode: Mode,
-) -> Result<Named, Memory>
-    ensures { IfOk result (λ put. named_of put ≡ handle_in (handle_name who.now name.now) object.0 mode) }
-{
-    let name = (who.copy(alloc)?, name.copy(alloc)?);
-    Ok((name, Handle { object, mode }))
-}
-
-// Whether the object of a number has the mark of shared ones already; where there is no object there is none to set.
-fn is_marked(content: &Content, overlay: &Overlay, id: ObjectId) -> bool
-    ensures { result ≡ is_marked SharedMark id.0 (objects_over content.now.objects overlay.now) }
-{
-    match overlay.look(content, id) {
-        Some(object) => object.shared,
-        None => true,
-    }
-}
-
 // Whether nothing changes where a handle becomes one in a mode: it is in that mode, and if it is Shared its object is marked.
 fn stays_as(content: &Content, overlay: &Overlay, handle: Handle, mode: Mode) -> bool
     ensures { result ≡ stays_as (objects_over content.now.objects overlay.now) handle mode }
 {
     match (handle.mode, mode) {
         (Mode::Owned, Mode::Owned) => true,
-        (Mode::Shared, Mode::Shared) => is_marked(content, overlay, handle.object),
+        (Mode::Shared, Mode::Shared) => is_marked(content, overlay, Mark::Shared, handle.object),
         (Mode::Unowned, Mode::Unowned) => true,
         _ => false,
     }
@@ -105,7 +77,7 @@ fn put_use(
     if is_needless(puts, content, overlay, used.handle, mode) {
         return Ok(());
     }
-    let put = handle_in(alloc, who, &used.name, used.handle.object, mode)?;
+    let put = handle_on(alloc, who, &used.name, used.handle.object, mode)?;
     puts.push(put)?;
     Ok(())
 }
@@ -140,7 +112,7 @@ fn put_given(
     ensures { OnOk result (map named_of puts.new ≡ map named_of puts.old ++ put_given (handle_name who.now into.now) given (option_map value_of value.now)) }
 {
     if let (Some(mode), Some(Value::Object(object))) = (given, value) {
-        puts.push(handle_in(alloc, who, into, *object, mode)?)?;
+        puts.push(handle_on(alloc, who, into, *object, mode)?)?;
     }
     Ok(())
 }

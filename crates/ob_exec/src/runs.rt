@@ -38,13 +38,13 @@ pub struct Run {
     pub(crate) state: State,
 }
 
-/// What a slice leads to.
+/// What a slice of a run leads to.
 #[derive(Drop)]
-pub enum Ended {
+pub enum SliceOutcome {
     /// The run has ended: its reply, and what differs in the store after it.
-    Yes(Reply, Delta),
-    /// It needs a unit past the slice.
-    Going,
+    Ended(Reply, Delta),
+    /// It is paused: it needs a unit past the slice.
+    Paused,
 }
 
 // The name for the handle on what a request gives, if it has one; else this, which is none.
@@ -116,6 +116,7 @@ fn slice_of(
     ensures { (fuel : ℕ) (given : List ℕ) → IsRunOn code.now fuel base.now given request.now (record { stage = stage.old; reads = reads; taken = taken })
         → IfOk result (λ end. SliceLeads code.now base.now (slice code.now fuel (content_of base.now) units (run_of code.now fuel base.now given request.now)) end stage.new) }
 {
+    // `image` says that the code is verified.
     let _image = code.image();
     match stage {
         Stage::Paused(paused) => {
@@ -168,7 +169,7 @@ impl Run {
     }
 
     // The run is where a slice of it has ended.
-    fn stop(&mut self, end: SliceEnd) -> Ended
+    fn stop(&mut self, end: SliceEnd) -> SliceOutcome
         ensures leads { (image : Code) (base : Stored) (r : PlainRun) → SliceLeads image base r end self.old.state.stage → Leads image base r self.new result }
         ensures request { self.new.request ≡ self.old.request }
     {
@@ -180,20 +181,28 @@ impl Run {
         self.state.reads = reads;
         self.state.taken = taken;
         match answered {
-            None => Ended::Going,
+            None => SliceOutcome::Paused,
             Some(answered) => {
                 self.state.stage = Stage::Over;
                 let Answered { answer, delta } = answered;
                 let reply = reply_to(&self.request, answer);
-                Ended::Yes(reply, delta)
+                SliceOutcome::Ended(reply, delta)
             }
         }
     }
 
     /// Runs on upon what a store holds, with what the run has changed of its objects laid over them, until the request has ended or
-    /// needs a unit past these; the run's own fuel is tested first. A run that has ended goes no further. Where memory runs out it is
-    /// dropped.
-    pub fn slice(&mut self, code: &Verified, base: &Content, units: u32) -> Result<Ended, Memory>
+    /// needs a unit past these; the run's own fuel is tested first. It isn't called any more once it has answered `Ended`.
+    ///
+    /// # Errors
+    ///
+    /// `Memory` where memory runs out. The run is to be dropped then: what it had read is lost.
+    pub fn slice(
+        &mut self,
+        code: &Verified,
+        base: &Content,
+        units: u32,
+    ) -> Result<SliceOutcome, Memory>
         requires { (fuel : ℕ) × (given : List ℕ) × IsRunOn code.now fuel base.now given self.old.request self.old.state }
         ensures leads { (fuel : ℕ) (given : List ℕ) → IsRunOn code.now fuel base.now given self.old.request self.old.state
             → IfOk result (Leads code.now base.now (slice code.now fuel (content_of base.now) units (run_of code.now fuel base.now given self.old.request)) self.new) }

@@ -148,6 +148,7 @@ pub fn go_on(
     ensures { (a : Asked) (p : Phase) → IsAt code.now base.now who.now into.now paused.old reads a p
         → IfOk result (λ end. SliceLeads code.now base.now (sliced_at code.now base.now units a p) end (PausedStage paused.new)) }
 {
+    // `image` says that the code is verified.
     let _image = code.image();
     let progress = paused
         .machine

@@ -24,7 +24,7 @@ use ob_heap::{Content, Handle, RcStr, Value};
 use ob_wire::Arg;
 use std::alloc::Global;
 
-// The client's handle of a name.
+/// The client's handle of a name.
 #[tactic(auto, using(crate::proofs::HandleLemmas::handles))]
 pub fn find_handle(content: &Content, who: &Label, name: &Label) -> Option<Handle>
     ensures { option_map handle_of result ≡ handle_at (content_of content.now) (handle_name who.now name.now) }
@@ -43,7 +43,7 @@ fn names_no_handle(content: &Content, who: &Label, arg: &Arg) -> bool
     }
 }
 
-// Whether an argument names a handle that isn't there.
+/// Whether an argument names a handle that isn't there.
 pub fn lack_handle(content: &Content, who: &Label, args: &[Arg]) -> bool
     ensures { result ≡ list_any (names_no_handle (content_of content.now) who.now) args.now }
 {
@@ -118,7 +118,7 @@ fn is_argument_for(
     }
 }
 
-// Whether an argument isn't of its parameter's type.
+/// Whether an argument isn't of its parameter's type.
 pub fn have_other_kind(
     code: &Image,
     content: &Content,
@@ -172,6 +172,7 @@ fn use_of_argument(
     }
 }
 
+/// Adds a use, if one was found.
 pub fn add_use(uses: &mut Items<HandleUse>, found: Option<HandleUse>) -> Result<(), Memory>
     ensures { OnOk result (uses.new ≡ uses.old ++ option_to_list found) }
 {
@@ -181,7 +182,7 @@ pub fn add_use(uses: &mut Items<HandleUse>, found: Option<HandleUse>) -> Result<
     Ok(())
 }
 
-// The uses of handles for arguments, in their order.
+/// The uses of handles for arguments, in their order.
 pub fn uses_of(
     alloc: Global,
     content: &Content,
@@ -244,7 +245,7 @@ fn add_value(values: &mut Items<Value>, found: Option<Value>) -> Result<(), Memo
     Ok(())
 }
 
-// The values of the arguments, in their order.
+/// The values of the arguments, in their order.
 pub fn values_of(
     alloc: Global,
     content: &Content,

@@ -261,7 +261,7 @@ impl<'a> Target<'a> {
         })
     }
 
-    // It is entered, or refused by the first check that holds.
+    /// It is entered, or refused by the first check that holds.
     pub fn enter(
         &self,
         alloc: Global,

@@ -26,7 +26,7 @@ pub struct Entered {
     pub receiver: Option<ObjectId>,
     /// The contract whose body runs.
     pub contract: ContractId,
-    /// The constructor or transaction.
+    /// The transaction. A constructor has no number yet, and 0 stands here.
     pub tx: TxId,
     /// The arguments, in the order of the parameters.
     pub args: Items<Value>,

@@ -20,7 +20,7 @@ use ob_code_table::{body_code, constructor_code};
 use ob_heap::{Content, Handle};
 use ob_wire::Arg;
 
-// What a `new` of a contract would enter.
+/// What a `new` of a contract would enter.
 pub fn find_new<'a>(
     code: &'a Image,
     who: &'a Label,
@@ -83,7 +83,7 @@ fn contract_of_object(content: &Content, id: ObjectId) -> Option<ContractId>
     }
 }
 
-// What a `call` would enter: the transaction of its name of the object's contract, unless that is private.
+/// What a `call` would enter: the transaction of its name of the object's contract, unless that is private.
 pub fn find_call<'a>(
     code: &'a Image,
     names: &Names,

@@ -12,7 +12,7 @@ ghost use Rattle.ob_code_table.specs.ImageTables.{type_of_code, interface_of, ta
 use ob_base::{ContractId, Mode};
 use ob_code::{ContractCode, Image, TypeCode, contract_code, is_main};
 
-// Whether a contract is there, and isn't the main contract.
+/// Whether a contract is there, and isn't the main contract.
 #[tactic(auto, using(ob_code_table::proofs::ImageLemmas::signatures))]
 pub fn is_other_contract(code: &Image, contract: ContractId) -> bool
     ensures { result ≡ option_map_or (λ (c : Contract). not c.main) (contract_at (table_of_image code.now) contract) false }
@@ -40,14 +40,14 @@ fn is_implemented(code: &Image, own: ContractId, declared: ContractId) -> bool
     }
 }
 
-// Whether an object of a contract may stand where one of the declared contract or interface is needed.
+/// Whether an object of a contract may stand where one of the declared contract or interface is needed.
 pub fn serves_as(code: &Image, declared: ContractId, own: ContractId) -> bool
     ensures { result ≡ serves_as (table_of_image code.now) (Reference declared) (Reference own) }
 {
     declared.0 == own.0 || is_implemented(code, own, declared)
 }
 
-// The mode of the reference that a result is, if it is one.
+/// The mode of the reference that a result is, if it is one.
 pub fn mode_of_result(given: &Option<TypeCode>) -> Option<Mode>
     ensures { result ≡ mode_of_result (option_map type_of_code given.now) }
 {

@@ -81,7 +81,7 @@ impl Names {
         })
     }
 
-    // The contract or interface of a name.
+    /// The contract or interface of a name.
     pub fn contract(&self, name: &Label) -> Option<ContractId>
         ensures { result ≡ contract_in self.now name.now }
     {
@@ -91,7 +91,7 @@ impl Names {
         }
     }
 
-    // The transaction of a name, of the contract or interface of a number.
+    /// The transaction of a name, of the contract or interface of a number.
     pub fn transaction(&self, contract: ContractId, name: &Label) -> Option<TxId>
         ensures { result ≡ transaction_in self.now contract name.now }
     {

@@ -5,17 +5,24 @@ use ob_heap::Handle;
 use ob_wire::Arg;
 use std::marker::Model;
 
-/// What is entered, before it is asked whether it may be: the client, the constructor or transaction with its numbers, the
-/// client's handle of the receiver with its name, the mode of the reference that is given, and what the request has.
+/// What is entered, before it is asked whether it may be: a constructor, or a transaction of a receiver, with what the request has.
 #[derive(Drop)]
 pub struct Target<'a> {
+    /// The client.
     pub who: &'a Label,
+    /// The contract whose body runs.
     pub contract: ContractId,
+    /// The transaction; 0 for a constructor, which has no number yet.
     pub tx: TxId,
+    /// The body.
     pub body: &'a BodyCode,
+    /// The client's handle on the receiver, with its name; a constructor has none.
     pub receiver: Option<(&'a Label, Handle)>,
+    /// The mode of the reference that is given, if one is.
     pub given: Option<Mode>,
+    /// The arguments.
     pub args: &'a Items<Arg>,
+    /// The name for the handle on what is given, if the request has one.
     pub into: &'a Option<Label>,
 }
 

@@ -10,9 +10,9 @@ ghost use Rattle.ob_exec_handles.specs.Coming.{LeadsTo};
 
 use crate::changing::changed_objects;
 use crate::marking::mark_puts;
-use crate::putting::changes_with;
-use ob_base::{Items, Label, Memory};
-use ob_heap::{Content, Delta, Handle, Overlay};
+use crate::putting::{Named, changes_with};
+use ob_base::{Items, Memory};
+use ob_heap::{Content, Delta, Overlay};
 use std::alloc::Global;
 
 /// What a run changed and the handles that are put after it, one after another, as one delta. Each reference that is put
@@ -21,7 +21,7 @@ pub fn delta_with(
     alloc: Global,
     base: &Content,
     overlay: &mut Overlay,
-    puts: &Items<((Label, Label), Handle)>,
+    puts: &Items<Named>,
 ) -> Result<Delta, Memory>
     requires { length (laid_over base.now.objects overlay.old) ≤ most_objects }
     ensures { IfOk result (λ delta. (w : World) → w.objects ≡ objects_over base.now.objects overlay.old → LeadsTo base.now delta (record { objects = (mark_puts w (map named_of puts.now)).objects; handles = put_handles (content_of base.now).handles (map named_of puts.now) })) }

@@ -17,7 +17,7 @@ ghost use Rattle.ob_exec_handles.specs.Parts.{ObjectsLead};
 use crate::answered::{Answered, refused};
 use crate::changing::marked_objects;
 use crate::marking::Mark;
-use crate::putting::changes_with;
+use crate::putting::{Named, changes_with};
 use ob_base::{Duplicate, Items, Label, MOST_HANDLES, Memory, Mode, ObjectId, both};
 use ob_heap::{Content, Delta, Handle, Object, Sequence};
 use ob_wire::{Answer, Outcome, Refusal};
@@ -78,28 +78,28 @@ pub fn refusal(
     None
 }
 
-// A handle on an object, with its name.
-fn handle_on(
+/// A client's handle on an object, with its name.
+pub fn handle_on(
     alloc: Global,
     who: &Label,
     name: &Label,
     object: ObjectId,
     mode: Mode,
-) -> Result<((Label, Label), Handle), Memory>
+) -> Result<Named, Memory>
     ensures { IfOk result (λ put. named_of put ≡ handle_in (handle_name who.now name.now) object.0 mode) }
 {
     let name = both(who.copy(alloc), name.copy(alloc))?;
     Ok((name, Handle { object, mode }))
 }
 
-// A handle on an object, alone.
+// The same, alone.
 fn one_handle(
     alloc: Global,
     who: &Label,
     name: &Label,
     object: ObjectId,
     mode: Mode,
-) -> Result<Items<((Label, Label), Handle)>, Memory>
+) -> Result<Items<Named>, Memory>
     ensures { IfOk result (λ puts. map named_of puts ≡ handle_in (handle_name who.now name.now) object.0 mode ∷ []) }
 {
     let mut puts = Items::new(alloc);
@@ -109,10 +109,7 @@ fn one_handle(
 }
 
 // Handles that are put, and one more.
-fn with_put(
-    puts: Items<((Label, Label), Handle)>,
-    put: ((Label, Label), Handle),
-) -> Result<Items<((Label, Label), Handle)>, Memory>
+fn with_put(puts: Items<Named>, put: Named) -> Result<Items<Named>, Memory>
     ensures { IfOk result (λ all. all ≡ puts ++ put ∷ []) }
 {
     let mut all = puts;
@@ -127,7 +124,7 @@ fn giver_after(
     on: &Label,
     object: ObjectId,
     mode: Mode,
-) -> Result<Items<((Label, Label), Handle)>, Memory>
+) -> Result<Items<Named>, Memory>
     ensures { IfOk result (λ puts. map named_of puts ≡ giver_after (handle_name who.now on.now) object.0 mode) }
 {
     match mode {
@@ -168,7 +165,7 @@ fn given(
     base: &Content,
     object: ObjectId,
     mode: Mode,
-    puts: &Items<((Label, Label), Handle)>,
+    puts: &Items<Named>,
 ) -> Result<Delta, Memory>
     ensures { IfOk result (λ delta. LeadsTo base.now delta (record { objects = with_given mode object.0 (map object_of base.now.objects); handles = put_handles (map named_of base.now.handles) (map named_of puts.now) })) }
 {

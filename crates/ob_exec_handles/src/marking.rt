@@ -7,8 +7,9 @@ ghost use Rattle.ob_heap.specs.Contents.{named_of};
 ghost use Rattle.ob_heap.specs.Plain.{object_of};
 ghost use Rattle.ob_exec_handles.specs.Marking.{has_mark, marked, is_marked, with_mark, with_put_marks};
 
-use ob_base::{Label, Memory, Mode, ObjectId};
-use ob_heap::{Content, Edit, Handle, Object, Overlay};
+use crate::putting::Named;
+use ob_base::{Memory, Mode, ObjectId};
+use ob_heap::{Content, Edit, Object, Overlay};
 use std::alloc::Global;
 
 /// A mark on an object (Coblenz et al., TOPLAS 42(3), 2020, "Permissions"; marks are this project's own).
@@ -52,8 +53,8 @@ fn edit_of(mark: Mark) -> Edit
     }
 }
 
-// Whether the object of a number has a mark already; where there is no object there is none to set.
-fn is_marked(base: &Content, overlay: &Overlay, mark: Mark, id: ObjectId) -> bool
+/// Whether the object of a number has a mark already; where there is no object there is none to set.
+pub fn is_marked(base: &Content, overlay: &Overlay, mark: Mark, id: ObjectId) -> bool
     ensures { result ≡ is_marked mark id.0 (objects_over base.now.objects overlay.now) }
 {
     match overlay.look(base, id) {
@@ -94,12 +95,7 @@ fn mark_object(
 }
 
 // A reference that is put into a Shared handle marks its object.
-fn mark_put(
-    alloc: Global,
-    base: &Content,
-    overlay: &mut Overlay,
-    put: &((Label, Label), Handle),
-) -> Result<(), Memory>
+fn mark_put(alloc: Global, base: &Content, overlay: &mut Overlay, put: &Named) -> Result<(), Memory>
     ensures { OnOk result (objects_over base.now.objects overlay.new ≡ with_put_marks (objects_over base.now.objects overlay.old) (named_of put.now ∷ [])) }
 {
     match put.1.mode {
@@ -113,7 +109,7 @@ pub fn mark_puts(
     alloc: Global,
     base: &Content,
     overlay: &mut Overlay,
-    puts: &[((Label, Label), Handle)],
+    puts: &[Named],
 ) -> Result<(), Memory>
     ensures { OnOk result (objects_over base.now.objects overlay.new ≡ with_put_marks (objects_over base.now.objects overlay.old) (map named_of puts.now)) }
 {

@@ -10,6 +10,9 @@ use ob_base::{Duplicate, Label, Memory, Mode, both};
 use ob_heap::{Content, Handle, Sequence, add_handle};
 use std::alloc::Global;
 
+/// A handle with its name.
+pub type Named = ((Label, Label), Handle);
+
 fn is_same_mode(a: Mode, b: Mode) -> bool
     ensures { result ≡ same_mode a b }
 {
@@ -28,7 +31,7 @@ fn is_same(a: Handle, b: Handle) -> bool
 }
 
 // Whether a name stands for this handle already.
-fn stands_so(base: &Content, put: &((Label, Label), Handle)) -> bool
+fn stands_so(base: &Content, put: &Named) -> bool
     ensures { result ≡ stands_so base.now.handles put.now }
 {
     match base.handle(&put.0.0, &put.0.1) {
@@ -45,10 +48,7 @@ pub fn copy_name(alloc: Global, name: &(Label, Label)) -> Result<(Label, Label),
 }
 
 // The handles that are put, as a store of these alone has them: in the order of their names, under each the last.
-fn last_puts(
-    alloc: Global,
-    puts: &[((Label, Label), Handle)],
-) -> Result<Vec<((Label, Label), Handle)>, Memory>
+fn last_puts(alloc: Global, puts: &[Named]) -> Result<Vec<Named>, Memory>
     ensures last { IfOk result (λ last. last.items ≡ with_handles [] (changes_by puts.now)) }
     ensures order { IfOk result (λ last. IsInOrder last.items) }
 {
@@ -65,7 +65,7 @@ fn add_other(
     changes: &mut Sequence<((Label, Label), Option<Handle>)>,
     alloc: Global,
     base: &Content,
-    put: &((Label, Label), Handle),
+    put: &Named,
 ) -> Result<(), Memory>
     ensures { OnOk result (changes.new ≡ changes.old ++ changes_by (other_puts base.now.handles (put.now ∷ []))) }
 {
@@ -80,7 +80,7 @@ fn add_other(
 fn others(
     alloc: Global,
     base: &Content,
-    puts: &[((Label, Label), Handle)],
+    puts: &[Named],
 ) -> Result<Sequence<((Label, Label), Option<Handle>)>, Memory>
     ensures { IfOk result (λ changes. changes ≡ changes_by (other_puts base.now.handles puts.now)) }
 {
@@ -95,7 +95,7 @@ fn others(
 pub fn changes_with(
     alloc: Global,
     base: &Content,
-    puts: &[((Label, Label), Handle)],
+    puts: &[Named],
 ) -> Result<Sequence<((Label, Label), Option<Handle>)>, Memory>
     ensures { IfOk result (λ changes. HandlesLead base.now.handles changes (put_handles (map named_of base.now.handles) (map named_of puts.now))) }
 {

@@ -88,54 +88,14 @@ pub fn read_handle(
 fn looks_up_name(why: Option<Refusal>) -> bool
     ensures { result ≡ looks_up_name why }
 {
-    let Some(refusal) = why else {
-        return true;
-    };
-    match refusal {
-        Refusal::IntoTaken => true,
-        Refusal::HandlesFull => true,
-        Refusal::LongLine => false,
-        Refusal::Json => false,
-        Refusal::Shape => false,
-        Refusal::BatchSize => false,
-        Refusal::NoHandle => false,
-        Refusal::NoContract => false,
-        Refusal::NotMain => false,
-        Refusal::NoTransaction => false,
-        Refusal::ArgCount => false,
-        Refusal::ArgKind => false,
-        Refusal::Permission => false,
-        Refusal::Repeated => false,
-        Refusal::IntoMissing => false,
-        Refusal::IntoNeedless => false,
-    }
+    matches!(why, None | Some(Refusal::IntoTaken | Refusal::HandlesFull))
 }
 
 // Whether the handles are counted then.
 fn counts_handles(why: Option<Refusal>) -> bool
     ensures { result ≡ counts_handles why }
 {
-    let Some(refusal) = why else {
-        return true;
-    };
-    match refusal {
-        Refusal::HandlesFull => true,
-        Refusal::LongLine => false,
-        Refusal::Json => false,
-        Refusal::Shape => false,
-        Refusal::BatchSize => false,
-        Refusal::NoHandle => false,
-        Refusal::NoContract => false,
-        Refusal::NotMain => false,
-        Refusal::NoTransaction => false,
-        Refusal::ArgCount => false,
-        Refusal::ArgKind => false,
-        Refusal::Permission => false,
-        Refusal::Repeated => false,
-        Refusal::IntoMissing => false,
-        Refusal::IntoNeedless => false,
-        Refusal::IntoTaken => false,
-    }
+    matches!(why, None | Some(Refusal::HandlesFull))
 }
 
 // What a client's name for a handle stands for is read, if it is looked up.

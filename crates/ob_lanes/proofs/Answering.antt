@@ -10,17 +10,17 @@ use Rattle.ob_code.specs.declared.image.Image.{Image}
 use Rattle.ob_request_run_laws.specs.Runs.{opened, paused, answered, lost}
 use Rattle.ob_request_run_laws.specs.Runs as plain
 use Rattle.ob_wire.specs.declared.reply.Reply.{Reply}
-use Rattle.ob_exec.specs.declared.runs.Ended.{Ended}
-use Rattle.ob_exec.specs.declared.runs.Ended.TheVariants as ended
+use Rattle.ob_exec.specs.declared.runs.SliceOutcome.{SliceOutcome}
+use Rattle.ob_exec.specs.declared.runs.SliceOutcome.TheVariants as slice_outcome
 use Rattle.ob_lanes_laws.specs.Schedule.{is_done, may_start, with_lane, starts, runs, sliced}
 use Rattle.ob_lanes_laws.specs.Schedule as schedule
 use Rattle.ob_lanes_laws.specs.Requests.{has_ended}
 use Rattle.ob_lanes_laws.specs.Turns.{first_start, started, turned, next_lane, is_answered, are_done_from}
 use Rattle.ob_lanes_laws.proofs.Keeping.{none_is_some, some_same, differ}
 use Rattle.ob_lanes.specs.Starting.{are_all_done}
-use Rattle.ob_lanes.specs.Standing.{Fits, rules_on, BusyLane, State, IsLane, requests_of, AreThose, NoneHasEnded, EndsAlone, OthersGoOn, Tells, LaneTells, HadTurn, CanTurn, Told, Answers, Turned}
-use Rattle.ob_lanes.specs.declared.entry.Busy.{Busy}
-use Rattle.ob_lanes.specs.declared.entry.Entry.{Entry}
+use Rattle.ob_lanes.specs.Standing.{Fits, rules_on, BusyLane, State, IsLane, requests_of, LanesStandFor, NoneHasEnded, EndsAlone, OthersGoOn, Tells, LaneTells, HadTurn, CanTurn, TurnComesTo, Answers, Turned}
+use Rattle.ob_lanes.specs.declared.batch.Busy.{Busy}
+use Rattle.ob_lanes.specs.declared.batch.BatchRequest.{BatchRequest}
 use Rattle.ob_lanes.specs.declared.lanes.Lanes.{Lanes}
 use Rattle.ob_lanes.specs.declared.lanes.Turn.{Turn}
 use Rattle.ob_lanes.specs.declared.lanes.Turn.TheVariants.{Going, Done}
@@ -28,24 +28,24 @@ use Rattle.ob_lanes.proofs.Standing.{Pair, beyond, within, pair_at, pair_length,
 
 -- Whose run has ended.
 
-tells_ended : (base : Stored) (id : ℤ) (r : plain.Run) (reply : Reply) (delta : Delta) → Tells base id r (ended.Yes reply delta) → has_ended r ≡ true
+tells_ended : (base : Stored) (id : ℤ) (r : plain.Run) (reply : Reply) (delta : Delta) → Tells base id r (slice_outcome.Ended reply delta) → has_ended r ≡ true
 tells_ended base id (opened q) reply delta h = absurd h
 tells_ended base id (paused q reads p held) reply delta h = absurd h
 tells_ended base id (answered a) reply delta h = refl
 tells_ended base id lost reply delta h = absurd h
 
-tells_going : (base : Stored) (id : ℤ) (r : plain.Run) → Tells base id r ended.Going → has_ended r ≡ false
+tells_going : (base : Stored) (id : ℤ) (r : plain.Run) → Tells base id r slice_outcome.Paused → has_ended r ≡ false
 tells_going base id (opened q) h = refl
 tells_going base id (paused q reads p held) h = refl
 tells_going base id (answered a) h = absurd h
 tells_going base id lost h = absurd h
 
 -- the entry of a busy lane of the schedule
-record EntryOf (entries : List Entry) (s : BusyLane) : Type 0 where
-  entry : Entry
+record EntryOf (entries : List BatchRequest) (s : BusyLane) : Type 0 where
+  entry : BatchRequest
   is : slice_get entries s.number ≡ Some entry
 
-entry_at : (image : Image) (fuel : ℕ) (base : Stored) (entries : List Entry) (lanes : List (Option Busy)) (l : State) (k : ℕ) (s : BusyLane) → AreThose image fuel base entries lanes l → slice_get l.lanes k ≡ Some (Some s) → EntryOf entries s
+entry_at : (image : Image) (fuel : ℕ) (base : Stored) (entries : List BatchRequest) (lanes : List (Option Busy)) (l : State) (k : ℕ) (s : BusyLane) → LanesStandFor image fuel base entries lanes l → slice_get l.lanes k ≡ Some (Some s) → EntryOf entries s
 entry_at image fuel base entries lanes l k s h e = by (pair_at image fuel base entries lanes l.lanes k h.each)
   where
     busy : (b : Option Busy) → IsLane image fuel base entries b (Some s) → EntryOf entries s
@@ -65,49 +65,49 @@ same_or (suc j) (suc k) A f g = same_or j k A (λ e. f (ap suc e)) (λ n. g (λ 
 pub eq_itself : (n : ℕ) → nat_eq n n ≡ true
 eq_itself n = (Decides-eqb n n).1 refl
 
-told_lane : (base : Stored) (entries : List Entry) (y : Option (Option BusyLane)) (s : BusyLane) (told : Ended) → y ≡ Some (Some s) → LaneTells base entries y told → (e : EntryOf entries s) → Tells base e.entry.request.id s.run told
-told_lane base entries y s told e h en = let its = subst (λ x. LaneTells base entries x told) e h in its en.entry en.is
+told_lane : (base : Stored) (entries : List BatchRequest) (y : Option (Option BusyLane)) (s : BusyLane) (outcome : SliceOutcome) → y ≡ Some (Some s) → LaneTells base entries y outcome → (e : EntryOf entries s) → Tells base e.entry.request.id s.run outcome
+told_lane base entries y s outcome e h en = let its = subst (λ x. LaneTells base entries x outcome) e h in its en.entry en.is
 
-pub ends_alone : (image : Image) (fuel : ℕ) (base : Stored) (entries : List Entry) (lanes : List (Option Busy)) (k : ℕ) (l : State) (reply : Reply) (delta : Delta) → AreThose image fuel base entries lanes l → OthersGoOn k l
-    → LaneTells base entries (slice_get l.lanes k) (ended.Yes reply delta) → EndsAlone k l
+pub ends_alone : (image : Image) (fuel : ℕ) (base : Stored) (entries : List BatchRequest) (lanes : List (Option Busy)) (k : ℕ) (l : State) (reply : Reply) (delta : Delta) → LanesStandFor image fuel base entries lanes l → OthersGoOn k l
+    → LaneTells base entries (slice_get l.lanes k) (slice_outcome.Ended reply delta) → EndsAlone k l
 ends_alone image fuel base entries lanes k l reply delta h o t = λ j b e. same_or j k (has_ended b.run ≡ nat_eq j k)
     (λ s. tells_ended base (entry_at image fuel base entries lanes l j b h e).entry.request.id b.run reply delta
-    (told_lane base entries (slice_get l.lanes k) b (ended.Yes reply delta) (ap (slice_get l.lanes) (sym s) ∙ e) t (entry_at image fuel base entries lanes l j b h e))
+    (told_lane base entries (slice_get l.lanes k) b (slice_outcome.Ended reply delta) (ap (slice_get l.lanes) (sym s) ∙ e) t (entry_at image fuel base entries lanes l j b h e))
     ∙ sym (ap (λ m. nat_eq m k) s ∙ eq_itself k))
     (λ n. o j b e n ∙ sym (differ j k n))
 
-pub none_ends : (image : Image) (fuel : ℕ) (base : Stored) (entries : List Entry) (lanes : List (Option Busy)) (k : ℕ) (l : State) → AreThose image fuel base entries lanes l → OthersGoOn k l
-    → LaneTells base entries (slice_get l.lanes k) ended.Going → NoneHasEnded l
+pub none_ends : (image : Image) (fuel : ℕ) (base : Stored) (entries : List BatchRequest) (lanes : List (Option Busy)) (k : ℕ) (l : State) → LanesStandFor image fuel base entries lanes l → OthersGoOn k l
+    → LaneTells base entries (slice_get l.lanes k) slice_outcome.Paused → NoneHasEnded l
 none_ends image fuel base entries lanes k l h o t = λ j b e. same_or j k (has_ended b.run ≡ false)
     (λ s. tells_going base (entry_at image fuel base entries lanes l j b h e).entry.request.id b.run
-    (told_lane base entries (slice_get l.lanes k) b ended.Going (ap (slice_get l.lanes) (sym s) ∙ e) t (entry_at image fuel base entries lanes l j b h e)))
+    (told_lane base entries (slice_get l.lanes k) b slice_outcome.Paused (ap (slice_get l.lanes) (sym s) ∙ e) t (entry_at image fuel base entries lanes l j b h e)))
     (λ n. o j b e n)
 
 -- Whether all is answered.
 
-done_from : (k : ℕ) (entries : List Entry) (l : State) → ((i : ℕ) (e : Entry) → slice_get entries i ≡ Some e → is_done (k + i) l.done ≡ e.is_done) → are_all_done entries ≡ are_done_from k (requests_of entries) l.done
+done_from : (k : ℕ) (entries : List BatchRequest) (l : State) → ((i : ℕ) (e : BatchRequest) → slice_get entries i ≡ Some e → is_done (k + i) l.done ≡ e.is_done) → are_all_done entries ≡ are_done_from k (requests_of entries) l.done
 done_from k [] l h = refl
 done_from k (e ∷ es) l h =
     ap (λ b. b && are_all_done es) (sym (h zero e refl) ∙ ap (λ n. is_done n l.done) (omega arith))
     ∙ ap (λ c. is_done k l.done && c) (done_from (suc k) es l (λ i x f. ap (λ n. is_done n l.done) (omega arith) ∙ h (suc i) x f))
 
-pub all_done : (image : Image) (fuel : ℕ) (base : Stored) (entries : List Entry) (lanes : List (Option Busy)) (l : State) → AreThose image fuel base entries lanes l → are_all_done entries ≡ is_answered (requests_of entries) l
+pub all_done : (image : Image) (fuel : ℕ) (base : Stored) (entries : List BatchRequest) (lanes : List (Option Busy)) (l : State) → LanesStandFor image fuel base entries lanes l → are_all_done entries ≡ is_answered (requests_of entries) l
 all_done image fuel base entries lanes l h = done_from 0 entries l (λ i e f. ap (λ n. is_done n l.done) (omega arith) ∙ h.done i e f)
 
 -- The answer.
 
-going_so : (base : Stored) (batch : List Request) (entries : List Entry) (k : ℕ) (l : State) (b : Bool) (turn : Turn) (next : ℕ) → turn ≡ (if b then Done else Going) → next ≡ next_lane (length l.lanes) k → NoneHasEnded l → is_answered batch l ≡ b
+going_so : (base : Stored) (batch : List Request) (entries : List BatchRequest) (k : ℕ) (l : State) (b : Bool) (turn : Turn) (next : ℕ) → turn ≡ (if b then Done else Going) → next ≡ next_lane (length l.lanes) k → NoneHasEnded l → is_answered batch l ≡ b
     → Answers base batch entries k l turn next
 going_so base batch entries k l true turn next t n g a = subst (λ x. Answers base batch entries k l x next) (sym t) (g, a, n)
 going_so base batch entries k l false turn next t n g a = subst (λ x. Answers base batch entries k l x next) (sym t) (g, a, n)
 
--- by what the run of the lane has told
-pub answers_so : (image : Image) (fuel : ℕ) (base : Stored) (mid : Lanes) (l : State) (told : Ended) (turn : Turn) (next : ℕ) → AreThose image fuel base mid.entries.items mid.lanes.items l → OthersGoOn mid.next l
-    → LaneTells base mid.entries.items (slice_get l.lanes mid.next) told → Told mid told next turn → Answers base (requests_of mid.entries.items) mid.entries.items mid.next l turn next
-answers_so image fuel base mid l (ended.Yes reply delta) turn next h o t g =
+-- by what the slice of the lane has led to
+pub answers_so : (image : Image) (fuel : ℕ) (base : Stored) (mid : Lanes) (l : State) (outcome : SliceOutcome) (turn : Turn) (next : ℕ) → LanesStandFor image fuel base mid.entries.items mid.lanes.items l → OthersGoOn mid.next l
+    → LaneTells base mid.entries.items (slice_get l.lanes mid.next) outcome → TurnComesTo mid outcome next turn → Answers base (requests_of mid.entries.items) mid.entries.items mid.next l turn next
+answers_so image fuel base mid l (slice_outcome.Ended reply delta) turn next h o t g =
     subst (λ x. Answers base (requests_of mid.entries.items) mid.entries.items mid.next l x next) (sym g.0)
     (t, ends_alone image fuel base mid.entries.items mid.lanes.items mid.next l reply delta h o t, g.1)
-answers_so image fuel base mid l ended.Going turn next h o t g =
+answers_so image fuel base mid l slice_outcome.Paused turn next h o t g =
     going_so base (requests_of mid.entries.items) mid.entries.items mid.next l (are_all_done mid.entries.items) turn next g.0
     (g.1 ∙ ap (λ n. next_lane n mid.next) (pair_length image fuel base mid.entries.items mid.lanes.items l.lanes h.each))
     (none_ends image fuel base mid.entries.items mid.lanes.items mid.next l h o t) (sym (all_done image fuel base mid.entries.items mid.lanes.items l h))
@@ -119,9 +119,9 @@ next_within count k h = by (nat_lt (k + 1) count) refl
     by true e = ltb-true (k + 1) count e
     by false e = omega (arith, h)
 
-told_within : (mid : Lanes) (told : Ended) (next : ℕ) (turn : Turn) → Told mid told next turn → mid.next < length mid.lanes.items → next < length mid.lanes.items
-told_within mid (ended.Yes reply delta) next turn g h = subst (λ n. n < length mid.lanes.items) (sym g.1) h
-told_within mid ended.Going next turn g h = subst (λ n. n < length mid.lanes.items) (sym g.1) (next_within (length mid.lanes.items) mid.next h)
+turn_within : (mid : Lanes) (outcome : SliceOutcome) (next : ℕ) (turn : Turn) → TurnComesTo mid outcome next turn → mid.next < length mid.lanes.items → next < length mid.lanes.items
+turn_within mid (slice_outcome.Ended reply delta) next turn g h = subst (λ n. n < length mid.lanes.items) (sym g.1) h
+turn_within mid slice_outcome.Paused next turn g h = subst (λ n. n < length mid.lanes.items) (sym g.1) (next_within (length mid.lanes.items) mid.next h)
 
 -- How many lanes there are.
 
@@ -154,16 +154,16 @@ turned_length fits image fuel batch units k l =
     runs_length fits image fuel k units (slice_get m.lanes k) m ∙ started_length fits image fuel batch k (first_start (rules_on fits image fuel) batch l 0 batch) l
 
 -- The whole turn: `mid` is what the lanes are once the lane had its turn, `new` once what its run tells is answered.
-pub turned_so : (image : Image) (fuel : ℕ) (batch : List Request) (base : Stored) (old mid new : Lanes) (l : State) (told : Ended) (turn : Turn) → CanTurn image fuel batch base old l
+pub turned_so : (image : Image) (fuel : ℕ) (batch : List Request) (base : Stored) (old mid new : Lanes) (l : State) (outcome : SliceOutcome) (turn : Turn) → CanTurn image fuel batch base old l
     → mid.slice ≡ old.slice → mid.next ≡ old.next → mid.entries.items ≡ old.entries.items
-    → HadTurn image fuel base old.entries.items old.slice old.next l mid.lanes.items told
-    → Told mid told new.next turn → new.slice ≡ mid.slice → new.entries.items ≡ mid.entries.items → new.lanes.items ≡ mid.lanes.items
+    → HadTurn image fuel base old.entries.items old.slice old.next l mid.lanes.items outcome
+    → TurnComesTo mid outcome new.next turn → new.slice ≡ mid.slice → new.entries.items ≡ mid.entries.items → new.lanes.items ≡ mid.lanes.items
     → Turned image fuel batch base old l new turn
-turned_so image fuel batch base old mid new l told turn can s1 n1 e1 had g s2 e2 l2 = record {
+turned_so image fuel batch base old mid new l outcome turn can s1 n1 e1 had g s2 e2 l2 = record {
   stands = λ fits. record {
     requests = can.stands.requests ∙ ap requests_of (sym (e2 ∙ e1));
-    state = subst (λ es. AreThose image fuel base es new.lanes.items (after fits)) (sym e2) (subst (λ ls. AreThose image fuel base mid.entries.items ls (after fits)) (sym l2) (those fits));
-    next = subst (λ ls. new.next < length ls) (sym l2) (told_within mid told new.next turn g within_mid);
+    state = subst (λ es. LanesStandFor image fuel base es new.lanes.items (after fits)) (sym e2) (subst (λ ls. LanesStandFor image fuel base mid.entries.items ls (after fits)) (sym l2) (those fits));
+    next = subst (λ ls. new.next < length ls) (sym l2) (turn_within mid outcome new.next turn g within_mid);
     slice = subst (λ n. 0 < n) (sym (s2 ∙ s1)) can.stands.slice;
   };
   slice = s2 ∙ s1;
@@ -171,7 +171,7 @@ turned_so image fuel batch base old mid new l told turn can s1 n1 e1 had g s2 e2
   answers = λ fits. subst (λ n. Answers base batch old.entries.items n (after fits) turn new.next) n1
       (subst (λ es. Answers base batch es mid.next (after fits) turn new.next) e1
       (subst (λ q. Answers base q mid.entries.items mid.next (after fits) turn new.next) (ap requests_of e1 ∙ sym can.stands.requests)
-      (answers_so image fuel base mid (after fits) told turn new.next (those fits) (others fits) (tells fits) g)));
+      (answers_so image fuel base mid (after fits) outcome turn new.next (those fits) (others fits) (tells fits) g)));
 }
   where
     all_fit : Fits
@@ -183,17 +183,17 @@ turned_so image fuel batch base old mid new l told turn can s1 n1 e1 had g s2 e2
     of_batch : (P : State → Type 0) (fits : Fits) → P (turned (rules_on fits image fuel) (requests_of old.entries.items) old.slice old.next l) → P (turned (rules_on fits image fuel) batch old.slice old.next l)
     of_batch P fits h = subst (λ q. P (turned (rules_on fits image fuel) q old.slice old.next l)) (sym can.stands.requests) h
 
-    those : (fits : Fits) → AreThose image fuel base mid.entries.items mid.lanes.items (turned (rules_on fits image fuel) batch old.slice old.next l)
-    those fits = subst (λ es. AreThose image fuel base es mid.lanes.items (turned (rules_on fits image fuel) batch old.slice old.next l)) (sym e1)
-        (of_batch (λ x. AreThose image fuel base old.entries.items mid.lanes.items x) fits (had.state fits))
+    those : (fits : Fits) → LanesStandFor image fuel base mid.entries.items mid.lanes.items (turned (rules_on fits image fuel) batch old.slice old.next l)
+    those fits = subst (λ es. LanesStandFor image fuel base es mid.lanes.items (turned (rules_on fits image fuel) batch old.slice old.next l)) (sym e1)
+        (of_batch (λ x. LanesStandFor image fuel base old.entries.items mid.lanes.items x) fits (had.state fits))
 
     others : (fits : Fits) → OthersGoOn mid.next (turned (rules_on fits image fuel) batch old.slice old.next l)
     others fits = subst (λ n. OthersGoOn n (turned (rules_on fits image fuel) batch old.slice old.next l)) (sym n1) (of_batch (λ x. OthersGoOn old.next x) fits (had.others fits))
 
-    tells : (fits : Fits) → LaneTells base mid.entries.items (slice_get (turned (rules_on fits image fuel) batch old.slice old.next l).lanes mid.next) told
-    tells fits = subst (λ n. LaneTells base mid.entries.items (slice_get (turned (rules_on fits image fuel) batch old.slice old.next l).lanes n) told) (sym n1)
-        (subst (λ es. LaneTells base es (slice_get (turned (rules_on fits image fuel) batch old.slice old.next l).lanes old.next) told) (sym e1)
-        (of_batch (λ x. LaneTells base old.entries.items (slice_get x.lanes old.next) told) fits (had.tells fits)))
+    tells : (fits : Fits) → LaneTells base mid.entries.items (slice_get (turned (rules_on fits image fuel) batch old.slice old.next l).lanes mid.next) outcome
+    tells fits = subst (λ n. LaneTells base mid.entries.items (slice_get (turned (rules_on fits image fuel) batch old.slice old.next l).lanes n) outcome) (sym n1)
+        (subst (λ es. LaneTells base es (slice_get (turned (rules_on fits image fuel) batch old.slice old.next l).lanes old.next) outcome) (sym e1)
+        (of_batch (λ x. LaneTells base old.entries.items (slice_get x.lanes old.next) outcome) fits (had.tells fits)))
 
     count_mid : length mid.lanes.items ≡ length old.lanes.items
     count_mid = pair_length image fuel base mid.entries.items mid.lanes.items (turned (rules_on all_fit image fuel) batch old.slice old.next l).lanes (those all_fit).each

@@ -7,14 +7,14 @@ use Rattle.ob_invocation_spec.specs.Requests.{Request}
 use Rattle.ob_code.specs.declared.image.Image.{Image}
 use Rattle.ob_wire.specs.declared.reply.Reply.{Reply}
 use Rattle.ob_wire.specs.declared.request.Request as wire
-use Rattle.ob_exec.specs.declared.runs.Ended.TheVariants as ended
+use Rattle.ob_exec.specs.declared.runs.SliceOutcome.TheVariants as slice_outcome
 use Rattle.ob_lanes_laws.specs.Schedule.{Rules, Done, is_done}
 use Rattle.ob_lanes_laws.specs.Schedule as schedule
 use Rattle.ob_lanes_laws.specs.Serial.{Meaning}
 use Rattle.ob_lanes_laws.specs.Turns.{turned, are_done_from, is_answered}
 use Rattle.ob_lanes_laws.proofs.Keeping.{Keeps, none_is_some, some_same, both_true}
 use Rattle.ob_lanes.specs.Standing.{Fits, rules_on, BusyLane, State, Tells, LaneTells, requests_kept, EndsAlone, Waits, Turned}
-use Rattle.ob_lanes.specs.declared.entry.Entry.{Entry}
+use Rattle.ob_lanes.specs.declared.batch.BatchRequest.{BatchRequest}
 use Rattle.ob_lanes.specs.declared.lanes.Lanes.{Lanes}
 use Rattle.ob_lanes.specs.declared.lanes.Turn.TheVariants.{Commit}
 use Rattle.ob_lanes.proofs.Standing.{get_map}
@@ -24,7 +24,7 @@ record Telling (y : Option (Option BusyLane)) : Type 0 where
   lane : BusyLane
   is : y ≡ Some (Some lane)
 
-telling : (base : Stored) (entries : List Entry) (y : Option (Option BusyLane)) (reply : Reply) (delta : Delta) → LaneTells base entries y (ended.Yes reply delta) → Telling y
+telling : (base : Stored) (entries : List BatchRequest) (y : Option (Option BusyLane)) (reply : Reply) (delta : Delta) → LaneTells base entries y (slice_outcome.Ended reply delta) → Telling y
 telling base entries None reply delta h = absurd h
 telling base entries (Some None) reply delta h = absurd h
 telling base entries (Some (Some s)) reply delta h = record { lane = s; is = refl }
@@ -46,7 +46,7 @@ waits_after image fuel batch base old new l reply delta h fits =
 -- And its lane's run tells that answer, with the number of the request for which the lane waits.
 pub tells_after : (image : Image) (fuel : ℕ) (batch : List Request) (base : Stored) (old new : Lanes) (l : State) (reply : Reply) (delta : Delta) (requests : List wire.Request) (q : wire.Request)
     → Turned image fuel batch base old l new (Commit reply delta) → requests_kept old ≡ requests → (fits : Fits) → (w : Waits image fuel batch base new (turned (rules_on fits image fuel) batch old.slice old.next l))
-    → slice_get requests w.lane.number ≡ Some q → Tells base q.id w.lane.run (ended.Yes reply delta)
+    → slice_get requests w.lane.number ≡ Some q → Tells base q.id w.lane.run (slice_outcome.Ended reply delta)
 tells_after image fuel batch base old new l reply delta requests q h kept fits w at = by (slice_get old.entries.items w.lane.number) refl
   where
     found : slice_get (requests_kept old) w.lane.number ≡ Some q
@@ -55,14 +55,14 @@ tells_after image fuel batch base old new l reply delta requests q h kept fits w
     lane_is : slice_get (turned (rules_on fits image fuel) batch old.slice old.next l).lanes old.next ≡ Some (Some w.lane)
     lane_is = ap (slice_get (turned (rules_on fits image fuel) batch old.slice old.next l).lanes) (sym (h.answers fits).2) ∙ w.lane_is
 
-    tells : LaneTells base old.entries.items (Some (Some w.lane)) (ended.Yes reply delta)
-    tells = subst (λ y. LaneTells base old.entries.items y (ended.Yes reply delta)) lane_is (h.answers fits).0
+    tells : LaneTells base old.entries.items (Some (Some w.lane)) (slice_outcome.Ended reply delta)
+    tells = subst (λ y. LaneTells base old.entries.items y (slice_outcome.Ended reply delta)) lane_is (h.answers fits).0
 
-    by : (x : Option Entry) → slice_get old.entries.items w.lane.number ≡ x → Tells base q.id w.lane.run (ended.Yes reply delta)
-    by None g = absurd (none_is_some (sym (get_map (λ (e : Entry). e.request) old.entries.items w.lane.number ∙ ap (option_map (λ (e : Entry). e.request)) g) ∙ found))
+    by : (x : Option BatchRequest) → slice_get old.entries.items w.lane.number ≡ x → Tells base q.id w.lane.run (slice_outcome.Ended reply delta)
+    by None g = absurd (none_is_some (sym (get_map (λ (e : BatchRequest). e.request) old.entries.items w.lane.number ∙ ap (option_map (λ (e : BatchRequest). e.request)) g) ∙ found))
     by (Some e) g =
-        let same = some_same e.request q (sym (get_map (λ (x : Entry). x.request) old.entries.items w.lane.number ∙ ap (option_map (λ (x : Entry). x.request)) g) ∙ found) in
-        subst (λ (r : wire.Request). Tells base r.id w.lane.run (ended.Yes reply delta)) same (tells e g)
+        let same = some_same e.request q (sym (get_map (λ (x : BatchRequest). x.request) old.entries.items w.lane.number ∙ ap (option_map (λ (x : BatchRequest). x.request)) g) ∙ found) in
+        subst (λ (r : wire.Request). Tells base r.id w.lane.run (slice_outcome.Ended reply delta)) same (tells e g)
 
 -- Once all is answered no lane is busy.
 

@@ -31,8 +31,8 @@ use Rattle.ob_lanes_laws.specs.Requests.{has_ended}
 use Rattle.ob_lanes_laws.proofs.Keeping.{none_is_some, some_same, set_cases, map_cases, differ}
 use Rattle.ob_lanes.specs.Committing.{is_stale, reopened, answered_in}
 use Rattle.ob_lanes.specs.Standing.{Fits, rules_on, BusyLane, State, in_order, given_run, IsAsFar, Holds, IsBusy, IsLane, AreLanes, requests_of, EndsAlone}
-use Rattle.ob_lanes.specs.declared.entry.Busy.{Busy}
-use Rattle.ob_lanes.specs.declared.entry.Entry.{Entry}
+use Rattle.ob_lanes.specs.declared.batch.Busy.{Busy}
+use Rattle.ob_lanes.specs.declared.batch.BatchRequest.{BatchRequest}
 use Rattle.ob_lanes.proofs.Standing.{set_get}
 use Rattle.ob_lanes.proofs.Answering.{same_or}
 use Rattle.ob_lanes.proofs.Changing.{changes_agree, stale_same}
@@ -112,62 +112,62 @@ moved image fuel before after delta request (u ∷ given) (Some run) s labels h 
 -- The entries.
 
 -- entries of which one is answered
-pub answered_get : (b : Busy) (entries : List Entry) (e : Entry) (n : ℕ) → slice_get entries b.number ≡ Some e → (n ≡ b.number → ⊥) → slice_get (answered_in (Some b) entries) n ≡ slice_get entries n
+pub answered_get : (b : Busy) (entries : List BatchRequest) (e : BatchRequest) (n : ℕ) → slice_get entries b.number ≡ Some e → (n ≡ b.number → ⊥) → slice_get (answered_in (Some b) entries) n ≡ slice_get entries n
 answered_get b entries e n at other =
-    ap (λ o. slice_get (option_map_or (λ (x : Entry). slice_set entries b.number (record x { is_done = true })) o entries) n) at
+    ap (λ o. slice_get (option_map_or (λ (x : BatchRequest). slice_set entries b.number (record x { is_done = true })) o entries) n) at
     ∙ set_other entries b.number n (record e { is_done = true }) (λ q. other (sym q))
   where
-    set_other : (xs : List Entry) (k m : ℕ) (x : Entry) → (k ≡ m → ⊥) → slice_get (slice_set xs k x) m ≡ slice_get xs m
+    set_other : (xs : List BatchRequest) (k m : ℕ) (x : BatchRequest) → (k ≡ m → ⊥) → slice_get (slice_set xs k x) m ≡ slice_get xs m
     set_other [] k m x h = refl
     set_other (y ∷ ys) zero zero x h = absurd (h refl)
     set_other (y ∷ ys) zero (suc m) x h = refl
     set_other (y ∷ ys) (suc k) zero x h = refl
     set_other (y ∷ ys) (suc k) (suc m) x h = set_other ys k m x (λ q. h (ap suc q))
 
-pub answered_here : (b : Busy) (entries : List Entry) (e : Entry) → slice_get entries b.number ≡ Some e → slice_get (answered_in (Some b) entries) b.number ≡ Some (record e { is_done = true })
+pub answered_here : (b : Busy) (entries : List BatchRequest) (e : BatchRequest) → slice_get entries b.number ≡ Some e → slice_get (answered_in (Some b) entries) b.number ≡ Some (record e { is_done = true })
 answered_here b entries e at =
-    ap (λ o. slice_get (option_map_or (λ (x : Entry). slice_set entries b.number (record x { is_done = true })) o entries) b.number) at
+    ap (λ o. slice_get (option_map_or (λ (x : BatchRequest). slice_set entries b.number (record x { is_done = true })) o entries) b.number) at
     ∙ set_get entries b.number (record e { is_done = true }) e at
 
 -- each request is as it was
-pub record StaysSo (entries after : List Entry) : Type 0 where
-  pub each : (n : ℕ) (e : Entry) → slice_get entries n ≡ Some e → (f : Entry) × (slice_get after n ≡ Some f) × (f.request ≡ e.request)
+pub record StaysSo (entries after : List BatchRequest) : Type 0 where
+  pub each : (n : ℕ) (e : BatchRequest) → slice_get entries n ≡ Some e → (f : BatchRequest) × (slice_get after n ≡ Some f) × (f.request ≡ e.request)
 
-pub answered_stays : (b : Busy) (entries : List Entry) (e : Entry) → slice_get entries b.number ≡ Some e → StaysSo entries (answered_in (Some b) entries)
+pub answered_stays : (b : Busy) (entries : List BatchRequest) (e : BatchRequest) → slice_get entries b.number ≡ Some e → StaysSo entries (answered_in (Some b) entries)
 answered_stays b entries e at = record {
-  each = λ n x f. same_or n b.number ((y : Entry) × (slice_get (answered_in (Some b) entries) n ≡ Some y) × (y.request ≡ x.request))
-      (λ same. (record e { is_done = true }, ap (slice_get (answered_in (Some b) entries)) same ∙ answered_here b entries e at, ap (λ (z : Entry). z.request) (some_same e x (sym at ∙ ap (slice_get entries) (sym same) ∙ f))))
+  each = λ n x f. same_or n b.number ((y : BatchRequest) × (slice_get (answered_in (Some b) entries) n ≡ Some y) × (y.request ≡ x.request))
+      (λ same. (record e { is_done = true }, ap (slice_get (answered_in (Some b) entries)) same ∙ answered_here b entries e at, ap (λ (z : BatchRequest). z.request) (some_same e x (sym at ∙ ap (slice_get entries) (sym same) ∙ f))))
       (λ other. (x, answered_get b entries e n at other ∙ f, refl));
 }
 
-pub answered_requests : (b : Busy) (entries : List Entry) (e : Entry) → slice_get entries b.number ≡ Some e → requests_of (answered_in (Some b) entries) ≡ requests_of entries
+pub answered_requests : (b : Busy) (entries : List BatchRequest) (e : BatchRequest) → slice_get entries b.number ≡ Some e → requests_of (answered_in (Some b) entries) ≡ requests_of entries
 answered_requests b entries e at =
-    ap (λ o. requests_of (option_map_or (λ (x : Entry). slice_set entries b.number (record x { is_done = true })) o entries)) at ∙ set_requests entries b.number e at
+    ap (λ o. requests_of (option_map_or (λ (x : BatchRequest). slice_set entries b.number (record x { is_done = true })) o entries)) at ∙ set_requests entries b.number e at
   where
-    set_requests : (xs : List Entry) (k : ℕ) (x : Entry) → slice_get xs k ≡ Some x → requests_of (slice_set xs k (record x { is_done = true })) ≡ requests_of xs
+    set_requests : (xs : List BatchRequest) (k : ℕ) (x : BatchRequest) → slice_get xs k ≡ Some x → requests_of (slice_set xs k (record x { is_done = true })) ≡ requests_of xs
     set_requests [] k x h = refl
-    set_requests (y ∷ ys) zero x h = ap (λ (z : Entry). request_of z.request ∷ requests_of ys) (sym (some_same y x h))
+    set_requests (y ∷ ys) zero x h = ap (λ (z : BatchRequest). request_of z.request ∷ requests_of ys) (sym (some_same y x h))
     set_requests (y ∷ ys) (suc k) x h = ap (λ qs. request_of y.request ∷ qs) (set_requests ys k x h)
 
 -- and so are the requests as they were asked
-set_kept : (xs : List Entry) (k : ℕ) (x : Entry) → slice_get xs k ≡ Some x → map (λ (e : Entry). e.request) (slice_set xs k (record x { is_done = true })) ≡ map (λ (e : Entry). e.request) xs
+set_kept : (xs : List BatchRequest) (k : ℕ) (x : BatchRequest) → slice_get xs k ≡ Some x → map (λ (e : BatchRequest). e.request) (slice_set xs k (record x { is_done = true })) ≡ map (λ (e : BatchRequest). e.request) xs
 set_kept [] k x h = refl
-set_kept (y ∷ ys) zero x h = ap (λ (z : Entry). z.request ∷ map (λ (e : Entry). e.request) ys) (sym (some_same y x h))
+set_kept (y ∷ ys) zero x h = ap (λ (z : BatchRequest). z.request ∷ map (λ (e : BatchRequest). e.request) ys) (sym (some_same y x h))
 set_kept (y ∷ ys) (suc k) x h = ap (λ qs. y.request ∷ qs) (set_kept ys k x h)
 
-pub answered_kept : (o : Option Busy) (entries : List Entry) → map (λ (e : Entry). e.request) (answered_in o entries) ≡ map (λ (e : Entry). e.request) entries
+pub answered_kept : (o : Option Busy) (entries : List BatchRequest) → map (λ (e : BatchRequest). e.request) (answered_in o entries) ≡ map (λ (e : BatchRequest). e.request) entries
 answered_kept None entries = refl
 answered_kept (Some b) entries = by (slice_get entries b.number) refl
   where
-    by : (o : Option Entry) → slice_get entries b.number ≡ o
-        → map (λ (e : Entry). e.request) (option_map_or (λ (x : Entry). slice_set entries b.number (record x { is_done = true })) o entries) ≡ map (λ (e : Entry). e.request) entries
+    by : (o : Option BatchRequest) → slice_get entries b.number ≡ o
+        → map (λ (e : BatchRequest). e.request) (option_map_or (λ (x : BatchRequest). slice_set entries b.number (record x { is_done = true })) o entries) ≡ map (λ (e : BatchRequest). e.request) entries
     by None f = refl
     by (Some x) f = set_kept entries b.number x f
 
 -- The lanes.
 
-module _ (fits : Fits) (image : Image) (fuel : ℕ) (before after : Stored) (delta : Delta) (old new : List Entry) (setting : Setting image fuel before delta after) (stays : StaysSo old new)
-    (labels : (n : ℕ) (e : Entry) → slice_get old n ≡ Some e → HasLabels (request_of e.request))
+module _ (fits : Fits) (image : Image) (fuel : ℕ) (before after : Stored) (delta : Delta) (old new : List BatchRequest) (setting : Setting image fuel before delta after) (stays : StaysSo old new)
+    (labels : (n : ℕ) (e : BatchRequest) → slice_get old n ≡ Some e → HasLabels (request_of e.request))
     (local : (request : wire.Request) (given : List ℕ) → HasLabels (request_of request)
     → conflicts (table_of_image image) (content_of before) (content_of after) (reads_of_run (given_run image fuel before request given)) ≡ false
     → given_run image fuel after request given ≡ given_run image fuel before request given) where

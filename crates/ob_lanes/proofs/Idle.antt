@@ -8,8 +8,8 @@ use Rattle.ob_wire.specs.declared.request.Request as wire
 use Rattle.ob_lanes_laws.specs.Schedule.{idle}
 use Rattle.ob_lanes_laws.proofs.Keeping.{none_is_some, some_same}
 use Rattle.ob_lanes.specs.Standing.{AreLanes, requests_of, StandFor, waiting}
-use Rattle.ob_lanes.specs.declared.entry.Busy.{Busy}
-use Rattle.ob_lanes.specs.declared.entry.Entry.{Entry}
+use Rattle.ob_lanes.specs.declared.batch.Busy.{Busy}
+use Rattle.ob_lanes.specs.declared.batch.BatchRequest.{BatchRequest}
 use Rattle.ob_lanes.specs.declared.lanes.Lanes.{Lanes}
 use Rattle.ob_lanes.proofs.Standing.{get_map}
 
@@ -17,14 +17,14 @@ waiting_requests : (batch : List wire.Request) → map request_of batch ≡ requ
 waiting_requests [] = refl
 waiting_requests (q ∷ qs) = ap (λ rs. request_of q ∷ rs) (waiting_requests qs)
 
-waiting_done : (batch : List wire.Request) (n : ℕ) (e : Entry) → slice_get (map waiting batch) n ≡ Some e → false ≡ e.is_done
+waiting_done : (batch : List wire.Request) (n : ℕ) (e : BatchRequest) → slice_get (map waiting batch) n ≡ Some e → false ≡ e.is_done
 waiting_done batch n e f = by (slice_get batch n) (sym (get_map waiting batch n) ∙ f)
   where
     by : (o : Option wire.Request) → option_map waiting o ≡ Some e → false ≡ e.is_done
     by None g = absurd (none_is_some g)
-    by (Some q) g = ap (λ (x : Entry). x.is_done) (some_same (waiting q) e g)
+    by (Some q) g = ap (λ (x : BatchRequest). x.is_done) (some_same (waiting q) e g)
 
-idle_lanes : (image : Image) (fuel : ℕ) (base : Stored) (entries : List Entry) (count : ℕ) → AreLanes image fuel base entries (replicate count None) (replicate count None)
+idle_lanes : (image : Image) (fuel : ℕ) (base : Stored) (entries : List BatchRequest) (count : ℕ) → AreLanes image fuel base entries (replicate count None) (replicate count None)
 idle_lanes image fuel base entries zero = tt
 idle_lanes image fuel base entries (suc count) = (tt, idle_lanes image fuel base entries count)
 
@@ -53,7 +53,7 @@ append_assoc [] y zs = refl
 append_assoc (x ∷ xs) y zs = ap (λ l. x ∷ l) (append_assoc xs y zs)
 
 -- one more is kept
-pub one_kept : (done : List Entry) (rest : List wire.Request) (all : List Entry) (q : wire.Request) → slice_get rest 0 ≡ Some q → done ++ map waiting rest ≡ all → (done ++ waiting q ∷ []) ++ map waiting (remove rest 0) ≡ all
+pub one_kept : (done : List BatchRequest) (rest : List wire.Request) (all : List BatchRequest) (q : wire.Request) → slice_get rest 0 ≡ Some q → done ++ map waiting rest ≡ all → (done ++ waiting q ∷ []) ++ map waiting (remove rest 0) ≡ all
 one_kept done [] all q e h = absurd (none_is_some e)
 one_kept done (r ∷ rs) all q e h =
     append_assoc done (waiting q) (map waiting rs) ∙ ap (λ x. done ++ waiting x ∷ map waiting rs) (sym (some_same r q e)) ∙ h
@@ -62,10 +62,10 @@ pub one_less : (rest : List wire.Request) (q : wire.Request) → slice_get rest 
 one_less [] q e = absurd (none_is_some e)
 one_less (r ∷ rs) q e = omega arith
 
-pub all_kept : (done all : List Entry) (rest : List wire.Request) → rest ≡ [] → done ++ map waiting rest ≡ all → done ≡ all
+pub all_kept : (done all : List BatchRequest) (rest : List wire.Request) → rest ≡ [] → done ++ map waiting rest ≡ all → done ≡ all
 all_kept done all rest none h = sym (append_none done) ∙ ap (λ (r : List wire.Request). done ++ map waiting r) (sym none) ∙ h
   where
-    append_none : (xs : List Entry) → xs ++ [] ≡ xs
+    append_none : (xs : List BatchRequest) → xs ++ [] ≡ xs
     append_none [] = refl
     append_none (x ∷ xs) = ap (λ l. x ∷ l) (append_none xs)
 
@@ -74,6 +74,6 @@ some_left [] h = absurd (h refl)
 some_left (r ∷ rs) h = omega arith
 
 -- as they were asked
-pub kept_waiting : (batch : List wire.Request) → map (λ (e : Entry). e.request) (map waiting batch) ≡ batch
+pub kept_waiting : (batch : List wire.Request) → map (λ (e : BatchRequest). e.request) (map waiting batch) ≡ batch
 kept_waiting [] = refl
 kept_waiting (q ∷ qs) = ap (λ rs. q ∷ rs) (kept_waiting qs)

@@ -13,8 +13,8 @@ use Rattle.ob_exec_handles.specs.Coming.{IsInLimits}
 use Rattle.ob_exec.specs.Pausing.{StandsFor, IsRunOn, run_of}
 use Rattle.ob_exec.specs.Pausing as exec
 use Rattle.ob_exec.specs.declared.runs.Run.{Run}
-use Rattle.ob_exec.specs.declared.runs.Ended.{Ended}
-use Rattle.ob_exec.specs.declared.runs.Ended.TheVariants.{Yes, Going}
+use Rattle.ob_exec.specs.declared.runs.SliceOutcome.{SliceOutcome}
+use Rattle.ob_exec.specs.declared.runs.SliceOutcome.TheVariants as slice_outcome
 use Rattle.ob_exec.proofs.CallerLemmas.{slices_then}
 use Rattle.ob_exec.proofs.FirstLemmas.{first_may_be_empty}
 use Rattle.ob_lanes_laws.specs.Requests.{has_ended}
@@ -60,33 +60,33 @@ ready_on image fuel base request given run h limits =
     subst (λ (q : Request). IsRunOn image fuel base h.slices_so_far q run.state) (sym h.request_is) (record { stands = h.stands; limits = limits })
 
 -- what its slice leads to, by the plain run
-record LeadsBoth (image : Image) (base : Stored) (id : ℤ) (r : plain.Run) (run : Run) (told : Ended) : Type 0 where
+record LeadsBoth (image : Image) (base : Stored) (id : ℤ) (r : plain.Run) (run : Run) (outcome : SliceOutcome) : Type 0 where
   far : IsAsFar image base r run
-  tells : Tells base id r told
+  tells : Tells base id r outcome
 
-leads_both : (image : Image) (base : Stored) (r : plain.Run) (run : Run) (told : Ended) → exec.Leads image base r run told → LeadsBoth image base run.request.id r run told
-leads_both image base (opened q) run told h = absurd h
-leads_both image base (paused q reads p held) run Going h = record { far = h; tells = tt }
-leads_both image base (paused q reads p held) run (Yes reply delta) h = absurd h
-leads_both image base (answered a) run Going h = absurd h
-leads_both image base (answered a) run (Yes reply delta) h = record { far = (h.2, h.3); tells = (h.0, h.1) }
-leads_both image base lost run told h = absurd h
+leads_both : (image : Image) (base : Stored) (r : plain.Run) (run : Run) (outcome : SliceOutcome) → exec.Leads image base r run outcome → LeadsBoth image base run.request.id r run outcome
+leads_both image base (opened q) run outcome h = absurd h
+leads_both image base (paused q reads p held) run slice_outcome.Paused h = record { far = h; tells = tt }
+leads_both image base (paused q reads p held) run (slice_outcome.Ended reply delta) h = absurd h
+leads_both image base (answered a) run slice_outcome.Paused h = absurd h
+leads_both image base (answered a) run (slice_outcome.Ended reply delta) h = record { far = (h.2, h.3); tells = (h.0, h.1) }
+leads_both image base lost run outcome h = absurd h
 
-pub slice_leads : (image : Image) (fuel : ℕ) (base : Stored) (request : Request) (given : List ℕ) (units : ℕ) (old new : Run) (told : Ended) → (h : IsReady image fuel base request given old)
-    → exec.Leads image base (slice image fuel (content_of base) units (run_of image fuel base h.slices_so_far old.request)) new told → new.request ≡ old.request
-    → Leads image fuel base request units given (Some new) told
-slice_leads image fuel base request given units old new told h led same =
+pub slice_leads : (image : Image) (fuel : ℕ) (base : Stored) (request : Request) (given : List ℕ) (units : ℕ) (old new : Run) (outcome : SliceOutcome) → (h : IsReady image fuel base request given old)
+    → exec.Leads image base (slice image fuel (content_of base) units (run_of image fuel base h.slices_so_far old.request)) new outcome → new.request ≡ old.request
+    → Leads image fuel base request units given (Some new) outcome
+slice_leads image fuel base request given units old new outcome h led same =
     let r = given_run image fuel base request (units ∷ given) in
     let is = ap (λ (q : Request). slice image fuel (content_of base) units (run_of image fuel base h.slices_so_far q)) h.request_is ∙ h.same units in
-    let both = leads_both image base r new told (subst (λ x. exec.Leads image base x new told) is led) in
+    let both = leads_both image base r new outcome (subst (λ x. exec.Leads image base x new outcome) is led) in
     let its = same ∙ h.request_is in
-    record { holds = (its, both.far); tells = subst (λ (q : Request). Tells base q.id r told) its both.tells }
+    record { holds = (its, both.far); tells = subst (λ (q : Request). Tells base q.id r outcome) its both.tells }
 
 -- the same by what it has answered
-pub slice_leads_if : {E : Type 0} (image : Image) (fuel : ℕ) (base : Stored) (request : Request) (given : List ℕ) (units : ℕ) (old new : Run) (result : Result Ended E) → (h : IsReady image fuel base request given old)
+pub slice_leads_if : {E : Type 0} (image : Image) (fuel : ℕ) (base : Stored) (request : Request) (given : List ℕ) (units : ℕ) (old new : Run) (result : Result SliceOutcome E) → (h : IsReady image fuel base request given old)
     → IfOk result (exec.Leads image base (slice image fuel (content_of base) units (run_of image fuel base h.slices_so_far old.request)) new) → new.request ≡ old.request
     → IfOk result (Leads image fuel base request units given (Some new))
-slice_leads_if image fuel base request given units old new (Ok told) h led same = slice_leads image fuel base request given units old new told h led same
+slice_leads_if image fuel base request given units old new (Ok outcome) h led same = slice_leads image fuel base request given units old new outcome h led same
 slice_leads_if image fuel base request given units old new (Err error) h led same = tt
 
 -- a run that is there is ready, and so is one that is started where none is

@@ -18,8 +18,8 @@ use Rattle.ob_heap.specs.declared.object.Object.{Object}
 use Rattle.ob_heap.specs.declared.delta.Delta.{Delta}
 use Rattle.ob_exec.specs.declared.runs.Run.{Run}
 use Rattle.ob_lanes.specs.Committing.{has_new, has_handle, is_full, is_changed, is_stale, reopened, lane_at}
-use Rattle.ob_lanes.specs.declared.entry.Busy.{Busy}
-use Rattle.ob_lanes.specs.declared.entry.Entry.{Entry}
+use Rattle.ob_lanes.specs.declared.batch.Busy.{Busy}
+use Rattle.ob_lanes.specs.declared.batch.BatchRequest.{BatchRequest}
 use Rattle.ob_lanes.specs.Starting.{first_from, opened_busy, begun_with, begun}
 use Rattle.ob_lanes.proofs.Standing.{begun_within}
 use Rattle.ob_lanes.specs.Readers.{objects_of, run_in, items_read, objects_read, has_read, freed, freed_if, freed_by, freed_by_all, freed_by_others, is_other_changed, is_other_stale}
@@ -227,8 +227,18 @@ entered_else readers between lanes turned k xs x e is so =
     ∙ entered_set readers lanes k None [] e refl
     ∙ sym (ap (map objects_read) (ap (λ ls. slice_set ls k None) so ∙ set_twice lanes k x None))
 
+pub none_set : (lanes : List (Option Busy)) (k : ℕ) → lane_at (slice_set lanes k None) k ≡ None
+none_set [] k = refl
+none_set (x ∷ xs) zero = refl
+none_set (x ∷ xs) (suc k) = none_set xs k
+
+-- and no other lane is changed by it
+pub idle_stays : (lanes turned : List (Option Busy)) (k : ℕ) (x : Option Busy) → turned ≡ slice_set lanes k x → slice_set turned k None ≡ slice_set lanes k (lane_at (slice_set turned k None) k)
+idle_stays lanes turned k x so =
+    ap (λ ls. slice_set ls k None) so ∙ set_twice lanes k x None ∙ ap (slice_set lanes k) (sym (none_set turned k))
+
 -- A turn begins a request in one lane alone.
-pub begun_set : (entries : List Entry) (k : ℕ) (lanes : List (Option Busy)) (x : Option Busy) → set (begun entries k lanes) k x ≡ set lanes k x
+pub begun_set : (entries : List BatchRequest) (k : ℕ) (lanes : List (Option Busy)) (x : Option Busy) → set (begun entries k lanes) k x ≡ set lanes k x
 begun_set entries k lanes x = by (first_from entries lanes 0 entries) (slice_get lanes k)
   where
     by : (n : Option ℕ) (lane : Option (Option Busy)) → set (begun_with k n lane lanes) k x ≡ set lanes k x
@@ -243,7 +253,7 @@ entered_idle zero = refl
 entered_idle (suc count) = ap (λ r. [] ∷ r) (entered_idle count)
 
 -- after its turn just one lane is another one
-pub turn_stays : (entries : List Entry) (k : ℕ) (old now : List (Option Busy)) (b : Option Busy) → now ≡ begun entries k old → k < length old → set now k b ≡ set old k (lane_at (set now k b) k)
+pub turn_stays : (entries : List BatchRequest) (k : ℕ) (old now : List (Option Busy)) (b : Option Busy) → now ≡ begun entries k old → k < length old → set now k b ≡ set old k (lane_at (set now k b) k)
 turn_stays entries k old now b same within =
     ap (λ ls. set ls k b) same ∙ begun_set entries k old b
     ∙ ap (set old k) (sym (get_or-set_same now k b None (subst (λ (ls : List (Option Busy)). k < length ls) (sym same) (begun_within entries k old within))))

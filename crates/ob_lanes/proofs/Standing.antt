@@ -7,16 +7,16 @@ use Rattle.ob_invocation_spec.specs.Requests.{Request}
 use Rattle.ob_code.specs.declared.image.Image.{Image}
 use Rattle.ob_request_run_laws.specs.Runs as plain
 use Rattle.ob_wire.specs.Meanings.{request_of}
-use Rattle.ob_exec.specs.declared.runs.Ended.{Ended}
+use Rattle.ob_exec.specs.declared.runs.SliceOutcome.{SliceOutcome}
 use Rattle.ob_lanes_laws.specs.Schedule.{is_done, with_lane, slice, step, starts, runs, sliced}
 use Rattle.ob_lanes_laws.specs.Schedule as schedule
 use Rattle.ob_lanes_laws.specs.Requests.{has_ended}
 use Rattle.ob_lanes_laws.specs.Turns.{first_start, started, turned}
 use Rattle.ob_lanes_laws.proofs.Keeping.{none_is_some, some_same, set_cases}
 use Rattle.ob_lanes.specs.Starting.{is_held, are_earlier_done, may_start, first_from, opened_busy, begun_with, begun}
-use Rattle.ob_lanes.specs.Standing.{Fits, rules_on, BusyLane, State, IsBusy, IsLane, AreLanes, requests_of, AreThose, NoneHasEnded, OthersGoOn, is_going, MayRun, Ran, LaneTells, HadTurn}
-use Rattle.ob_lanes.specs.declared.entry.Busy.{Busy}
-use Rattle.ob_lanes.specs.declared.entry.Entry.{Entry}
+use Rattle.ob_lanes.specs.Standing.{Fits, rules_on, BusyLane, State, IsBusy, IsLane, AreLanes, requests_of, LanesStandFor, NoneHasEnded, OthersGoOn, is_going, MayRun, Ran, LaneTells, HadTurn}
+use Rattle.ob_lanes.specs.declared.batch.Busy.{Busy}
+use Rattle.ob_lanes.specs.declared.batch.BatchRequest.{BatchRequest}
 
 -- Lists.
 
@@ -43,11 +43,11 @@ index_get (y ∷ ys) (suc k) x = index_get ys k x
 -- Lanes in pairs.
 
 -- the lanes of a number, of the code and of the schedule
-pub data Pair (image : Image) (fuel : ℕ) (base : Stored) (entries : List Entry) (x : Option (Option Busy)) (y : Option (Option BusyLane)) : Type 0 where
+pub data Pair (image : Image) (fuel : ℕ) (base : Stored) (entries : List BatchRequest) (x : Option (Option Busy)) (y : Option (Option BusyLane)) : Type 0 where
   beyond : x ≡ None → y ≡ None → Pair image fuel base entries x y
   within : (b : Option Busy) (s : Option BusyLane) → x ≡ Some b → y ≡ Some s → IsLane image fuel base entries b s → Pair image fuel base entries x y
 
-pub pair_at : (image : Image) (fuel : ℕ) (base : Stored) (entries : List Entry) (bs : List (Option Busy)) (ss : List (Option BusyLane)) (k : ℕ) → AreLanes image fuel base entries bs ss
+pub pair_at : (image : Image) (fuel : ℕ) (base : Stored) (entries : List BatchRequest) (bs : List (Option Busy)) (ss : List (Option BusyLane)) (k : ℕ) → AreLanes image fuel base entries bs ss
     → Pair image fuel base entries (slice_get bs k) (slice_get ss k)
 pair_at image fuel base entries [] [] k h = beyond refl refl
 pair_at image fuel base entries [] (s ∷ ss) k h = absurd h
@@ -55,7 +55,7 @@ pair_at image fuel base entries (b ∷ bs) [] k h = absurd h
 pair_at image fuel base entries (b ∷ bs) (s ∷ ss) zero h = within b s refl refl h.0
 pair_at image fuel base entries (b ∷ bs) (s ∷ ss) (suc k) h = pair_at image fuel base entries bs ss k h.1
 
-pub pair_set : (image : Image) (fuel : ℕ) (base : Stored) (entries : List Entry) (bs : List (Option Busy)) (ss : List (Option BusyLane)) (k : ℕ) (b : Option Busy) (s : Option BusyLane) → AreLanes image fuel base entries bs ss
+pub pair_set : (image : Image) (fuel : ℕ) (base : Stored) (entries : List BatchRequest) (bs : List (Option Busy)) (ss : List (Option BusyLane)) (k : ℕ) (b : Option Busy) (s : Option BusyLane) → AreLanes image fuel base entries bs ss
     → IsLane image fuel base entries b s → AreLanes image fuel base entries (slice_set bs k b) (slice_set ss k s)
 pair_set image fuel base entries [] [] k b s h g = tt
 pair_set image fuel base entries [] (y ∷ ss) k b s h g = absurd h
@@ -63,7 +63,7 @@ pair_set image fuel base entries (x ∷ bs) [] k b s h g = absurd h
 pair_set image fuel base entries (x ∷ bs) (y ∷ ss) zero b s h g = (g, h.1)
 pair_set image fuel base entries (x ∷ bs) (y ∷ ss) (suc k) b s h g = (h.0, pair_set image fuel base entries bs ss k b s h.1 g)
 
-pub pair_length : (image : Image) (fuel : ℕ) (base : Stored) (entries : List Entry) (bs : List (Option Busy)) (ss : List (Option BusyLane)) → AreLanes image fuel base entries bs ss → length bs ≡ length ss
+pub pair_length : (image : Image) (fuel : ℕ) (base : Stored) (entries : List BatchRequest) (bs : List (Option Busy)) (ss : List (Option BusyLane)) → AreLanes image fuel base entries bs ss → length bs ≡ length ss
 pair_length image fuel base entries [] [] h = refl
 pair_length image fuel base entries [] (s ∷ ss) h = absurd h
 pair_length image fuel base entries (b ∷ bs) [] h = absurd h
@@ -71,7 +71,7 @@ pair_length image fuel base entries (b ∷ bs) (s ∷ ss) h = ap suc (pair_lengt
 
 -- Which request may start.
 
-held_same : (image : Image) (fuel : ℕ) (base : Stored) (entries : List Entry) (n : ℕ) (bs : List (Option Busy)) (ss : List (Option BusyLane)) → AreLanes image fuel base entries bs ss → is_held n bs ≡ schedule.is_held n ss
+held_same : (image : Image) (fuel : ℕ) (base : Stored) (entries : List BatchRequest) (n : ℕ) (bs : List (Option Busy)) (ss : List (Option BusyLane)) → AreLanes image fuel base entries bs ss → is_held n bs ≡ schedule.is_held n ss
 held_same image fuel base entries n [] [] h = refl
 held_same image fuel base entries n [] (s ∷ ss) h = absurd h
 held_same image fuel base entries n (b ∷ bs) [] h = absurd h
@@ -82,40 +82,40 @@ held_same image fuel base entries n (Some b ∷ bs) (Some s ∷ ss) h =
     ap (λ m. nat_eq n m || is_held n bs) h.0.number ∙ ap (λ c. nat_eq n s.number || c) (held_same image fuel base entries n bs ss h.1)
 
 -- entries from a number on, and what is answered
-abbrev IsTold : ℕ → List Entry → (ℕ → Bool) → Type 0
-IsTold k entries done = (i : ℕ) (e : Entry) → slice_get entries i ≡ Some e → done (k + i) ≡ e.is_done
+abbrev IsTold : ℕ → List BatchRequest → (ℕ → Bool) → Type 0
+IsTold k entries done = (i : ℕ) (e : BatchRequest) → slice_get entries i ≡ Some e → done (k + i) ≡ e.is_done
 
-told_head : (k : ℕ) (e : Entry) (es : List Entry) (done : ℕ → Bool) → IsTold k (e ∷ es) done → done k ≡ e.is_done
+told_head : (k : ℕ) (e : BatchRequest) (es : List BatchRequest) (done : ℕ → Bool) → IsTold k (e ∷ es) done → done k ≡ e.is_done
 told_head k e es done h = ap done (omega arith) ∙ h zero e refl
 
-told_tail : (k : ℕ) (e : Entry) (es : List Entry) (done : ℕ → Bool) → IsTold k (e ∷ es) done → IsTold (suc k) es done
+told_tail : (k : ℕ) (e : BatchRequest) (es : List BatchRequest) (done : ℕ → Bool) → IsTold k (e ∷ es) done → IsTold (suc k) es done
 told_tail k e es done h = λ i x f. ap done (omega arith) ∙ h (suc i) x f
 
-earlier_same : (fits : Fits) (image : Image) (fuel : ℕ) (q : Request) (n k : ℕ) (entries : List Entry) (l : State) → IsTold k entries (λ i. is_done i l.done)
+earlier_same : (fits : Fits) (image : Image) (fuel : ℕ) (q : Request) (n k : ℕ) (entries : List BatchRequest) (l : State) → IsTold k entries (λ i. is_done i l.done)
     → are_earlier_done q.who n k entries ≡ schedule.are_earlier_done (rules_on fits image fuel) q n k (requests_of entries) l.done
 earlier_same fits image fuel q n k [] l h = refl
 earlier_same fits image fuel q n k (e ∷ es) l h =
     ap (λ d. nat_eq n k || ((not (bytes_eq e.request.who q.who) || d) && are_earlier_done q.who n (suc k) es)) (sym (told_head k e es (λ i. is_done i l.done) h))
     ∙ ap (λ c. nat_eq n k || ((not (bytes_eq e.request.who q.who) || is_done k l.done) && c)) (earlier_same fits image fuel q n (suc k) es l (told_tail k e es (λ i. is_done i l.done) h))
 
-told_all : (image : Image) (fuel : ℕ) (base : Stored) (entries : List Entry) (lanes : List (Option Busy)) (l : State) → AreThose image fuel base entries lanes l → IsTold 0 entries (λ i. is_done i l.done)
+told_all : (image : Image) (fuel : ℕ) (base : Stored) (entries : List BatchRequest) (lanes : List (Option Busy)) (l : State) → LanesStandFor image fuel base entries lanes l → IsTold 0 entries (λ i. is_done i l.done)
 told_all image fuel base entries lanes l h = λ i e f. ap (λ m. is_done m l.done) (omega arith) ∙ h.done i e f
 
-may_same : (fits : Fits) (image : Image) (fuel : ℕ) (base : Stored) (entries : List Entry) (lanes : List (Option Busy)) (l : State) (n : ℕ) (e : Entry) → AreThose image fuel base entries lanes l → is_done n l.done ≡ e.is_done
+may_same : (fits : Fits) (image : Image) (fuel : ℕ) (base : Stored) (entries : List BatchRequest) (lanes : List (Option Busy)) (l : State) (n : ℕ) (e : BatchRequest) → LanesStandFor image fuel base entries lanes l → is_done n l.done ≡ e.is_done
     → may_start entries lanes n e ≡ schedule.may_start (rules_on fits image fuel) (requests_of entries) n (request_of e.request) l
 may_same fits image fuel base entries lanes l n e h d =
     ap (λ x. not x && (not (is_held n lanes) && are_earlier_done e.request.who n 0 entries)) (sym d)
     ∙ ap (λ x. not (is_done n l.done) && (not x && are_earlier_done e.request.who n 0 entries)) (held_same image fuel base entries n lanes l.lanes h.each)
     ∙ ap (λ x. not (is_done n l.done) && (not (schedule.is_held n l.lanes) && x)) (earlier_same fits image fuel (request_of e.request) n 0 entries l (told_all image fuel base entries lanes l h))
 
-first_by : (fits : Fits) (image : Image) (fuel : ℕ) (base : Stored) (entries : List Entry) (lanes : List (Option Busy)) (l : State) (k : ℕ) (es : List Entry) → AreThose image fuel base entries lanes l → IsTold k es (λ i. is_done i l.done)
+first_by : (fits : Fits) (image : Image) (fuel : ℕ) (base : Stored) (entries : List BatchRequest) (lanes : List (Option Busy)) (l : State) (k : ℕ) (es : List BatchRequest) → LanesStandFor image fuel base entries lanes l → IsTold k es (λ i. is_done i l.done)
     → first_from entries lanes k es ≡ first_start (rules_on fits image fuel) (requests_of entries) l k (requests_of es)
 first_by fits image fuel base entries lanes l k [] h t = refl
 first_by fits image fuel base entries lanes l k (e ∷ es) h t =
     ap (λ b. if b then Some k else first_from entries lanes (suc k) es) (may_same fits image fuel base entries lanes l k e h (told_head k e es (λ i. is_done i l.done) t))
     ∙ ap (λ o. if schedule.may_start (rules_on fits image fuel) (requests_of entries) k (request_of e.request) l then Some k else o) (first_by fits image fuel base entries lanes l (suc k) es h (told_tail k e es (λ i. is_done i l.done) t))
 
-pub first_same : (fits : Fits) (image : Image) (fuel : ℕ) (base : Stored) (entries : List Entry) (lanes : List (Option Busy)) (l : State) → AreThose image fuel base entries lanes l
+pub first_same : (fits : Fits) (image : Image) (fuel : ℕ) (base : Stored) (entries : List BatchRequest) (lanes : List (Option Busy)) (l : State) → LanesStandFor image fuel base entries lanes l
     → first_from entries lanes 0 entries ≡ first_start (rules_on fits image fuel) (requests_of entries) l 0 (requests_of entries)
 first_same fits image fuel base entries lanes l h = first_by fits image fuel base entries lanes l 0 entries h (told_all image fuel base entries lanes l h)
 
@@ -139,63 +139,63 @@ startable fits image fuel batch l k n (q ∷ qs) h e =
     by false m f ih = ih f
 
 -- the entry of a request
-pub entry_of : (entries : List Entry) (n : ℕ) (q : Request) → slice_get (requests_of entries) n ≡ Some q → (e : Entry) × (slice_get entries n ≡ Some e) × (q ≡ request_of e.request)
+pub entry_of : (entries : List BatchRequest) (n : ℕ) (q : Request) → slice_get (requests_of entries) n ≡ Some q → (e : BatchRequest) × (slice_get entries n ≡ Some e) × (q ≡ request_of e.request)
 entry_of entries n q f = by (slice_get entries n) refl
   where
-    by : (x : Option Entry) → slice_get entries n ≡ x → (e : Entry) × (slice_get entries n ≡ Some e) × (q ≡ request_of e.request)
-    by None g = absurd (none_is_some (sym (get_map (λ (e : Entry). request_of e.request) entries n ∙ ap (option_map (λ (e : Entry). request_of e.request)) g) ∙ f))
-    by (Some e) g = (e, g, some_same q (request_of e.request) (sym f ∙ get_map (λ (e : Entry). request_of e.request) entries n ∙ ap (option_map (λ (e : Entry). request_of e.request)) g))
+    by : (x : Option BatchRequest) → slice_get entries n ≡ x → (e : BatchRequest) × (slice_get entries n ≡ Some e) × (q ≡ request_of e.request)
+    by None g = absurd (none_is_some (sym (get_map (λ (e : BatchRequest). request_of e.request) entries n ∙ ap (option_map (λ (e : BatchRequest). request_of e.request)) g) ∙ f))
+    by (Some e) g = (e, g, some_same q (request_of e.request) (sym f ∙ get_map (λ (e : BatchRequest). request_of e.request) entries n ∙ ap (option_map (λ (e : BatchRequest). request_of e.request)) g))
 
-opened_is : (image : Image) (fuel : ℕ) (base : Stored) (entries : List Entry) (n : ℕ) (q : Request) → slice_get (requests_of entries) n ≡ Some q
+opened_is : (image : Image) (fuel : ℕ) (base : Stored) (entries : List BatchRequest) (n : ℕ) (q : Request) → slice_get (requests_of entries) n ≡ Some q
     → (fits : Fits) → IsBusy image fuel base entries (opened_busy n) (schedule.opened (rules_on fits image fuel) n q)
 opened_is image fuel base entries n q f fits =
     let e = entry_of entries n q f in
     record { number = refl; entry = e.0; entry_is = e.1; request = e.2; run = ap plain.opened e.2; holds = tt }
 
 -- another lane in the place of one
-with_pair : (image : Image) (fuel : ℕ) (base : Stored) (entries : List Entry) (lanes : List (Option Busy)) (l : State) (k : ℕ) (b : Option Busy) (s : Option BusyLane) → AreThose image fuel base entries lanes l → IsLane image fuel base entries b s
-    → AreThose image fuel base entries (slice_set lanes k b) (with_lane k s l)
+with_pair : (image : Image) (fuel : ℕ) (base : Stored) (entries : List BatchRequest) (lanes : List (Option Busy)) (l : State) (k : ℕ) (b : Option Busy) (s : Option BusyLane) → LanesStandFor image fuel base entries lanes l → IsLane image fuel base entries b s
+    → LanesStandFor image fuel base entries (slice_set lanes k b) (with_lane k s l)
 with_pair image fuel base entries lanes l k b s h g = record { store = h.store; done = h.done; each = pair_set image fuel base entries lanes l.lanes k b s h.each g }
 
-begin_at : (fits : Fits) (image : Image) (fuel : ℕ) (base : Stored) (entries : List Entry) (lanes : List (Option Busy)) (l : State) (k n : ℕ) (b : Option Busy) (s : Option BusyLane) → AreThose image fuel base entries lanes l
+begin_at : (fits : Fits) (image : Image) (fuel : ℕ) (base : Stored) (entries : List BatchRequest) (lanes : List (Option Busy)) (l : State) (k n : ℕ) (b : Option Busy) (s : Option BusyLane) → LanesStandFor image fuel base entries lanes l
     → (st : Startable fits image fuel (requests_of entries) l n) → IsLane image fuel base entries b s
-    → AreThose image fuel base entries (begun_with k (Some n) (Some b) lanes) (starts (rules_on fits image fuel) (requests_of entries) k n (Some st.request) (Some s) l)
+    → LanesStandFor image fuel base entries (begun_with k (Some n) (Some b) lanes) (starts (rules_on fits image fuel) (requests_of entries) k n (Some st.request) (Some s) l)
 begin_at fits image fuel base entries lanes l k n None None h st g =
-    subst (λ m. AreThose image fuel base entries (slice_set lanes k (Some (opened_busy n))) (if m then with_lane k (Some (schedule.opened (rules_on fits image fuel) n st.request)) l else l)) (sym st.may)
+    subst (λ m. LanesStandFor image fuel base entries (slice_set lanes k (Some (opened_busy n))) (if m then with_lane k (Some (schedule.opened (rules_on fits image fuel) n st.request)) l else l)) (sym st.may)
     (with_pair image fuel base entries lanes l k (Some (opened_busy n)) (Some (schedule.opened (rules_on fits image fuel) n st.request)) h (opened_is image fuel base entries n st.request st.is fits))
 begin_at fits image fuel base entries lanes l k n None (Some s) h st g = absurd g
 begin_at fits image fuel base entries lanes l k n (Some b) None h st g = absurd g
 begin_at fits image fuel base entries lanes l k n (Some b) (Some s) h st g = h
 
-begin_by : (fits : Fits) (image : Image) (fuel : ℕ) (base : Stored) (entries : List Entry) (lanes : List (Option Busy)) (l : State) (k n : ℕ) → AreThose image fuel base entries lanes l
+begin_by : (fits : Fits) (image : Image) (fuel : ℕ) (base : Stored) (entries : List BatchRequest) (lanes : List (Option Busy)) (l : State) (k n : ℕ) → LanesStandFor image fuel base entries lanes l
     → (st : Startable fits image fuel (requests_of entries) l n) → Pair image fuel base entries (slice_get lanes k) (slice_get l.lanes k)
-    → AreThose image fuel base entries (begun_with k (Some n) (slice_get lanes k) lanes) (starts (rules_on fits image fuel) (requests_of entries) k n (Some st.request) (slice_get l.lanes k) l)
+    → LanesStandFor image fuel base entries (begun_with k (Some n) (slice_get lanes k) lanes) (starts (rules_on fits image fuel) (requests_of entries) k n (Some st.request) (slice_get l.lanes k) l)
 begin_by fits image fuel base entries lanes l k n h st (beyond e f) =
-    subst (λ x. AreThose image fuel base entries (begun_with k (Some n) x lanes) (starts (rules_on fits image fuel) (requests_of entries) k n (Some st.request) (slice_get l.lanes k) l)) (sym e)
-    (subst (λ y. AreThose image fuel base entries lanes (starts (rules_on fits image fuel) (requests_of entries) k n (Some st.request) y l)) (sym f) h)
+    subst (λ x. LanesStandFor image fuel base entries (begun_with k (Some n) x lanes) (starts (rules_on fits image fuel) (requests_of entries) k n (Some st.request) (slice_get l.lanes k) l)) (sym e)
+    (subst (λ y. LanesStandFor image fuel base entries lanes (starts (rules_on fits image fuel) (requests_of entries) k n (Some st.request) y l)) (sym f) h)
 begin_by fits image fuel base entries lanes l k n h st (within b s e f g) =
-    subst (λ x. AreThose image fuel base entries (begun_with k (Some n) x lanes) (starts (rules_on fits image fuel) (requests_of entries) k n (Some st.request) (slice_get l.lanes k) l)) (sym e)
-    (subst (λ y. AreThose image fuel base entries (begun_with k (Some n) (Some b) lanes) (starts (rules_on fits image fuel) (requests_of entries) k n (Some st.request) y l)) (sym f)
+    subst (λ x. LanesStandFor image fuel base entries (begun_with k (Some n) x lanes) (starts (rules_on fits image fuel) (requests_of entries) k n (Some st.request) (slice_get l.lanes k) l)) (sym e)
+    (subst (λ y. LanesStandFor image fuel base entries (begun_with k (Some n) (Some b) lanes) (starts (rules_on fits image fuel) (requests_of entries) k n (Some st.request) y l)) (sym f)
     (begin_at fits image fuel base entries lanes l k n b s h st g))
 
-begin_with : (fits : Fits) (image : Image) (fuel : ℕ) (base : Stored) (entries : List Entry) (lanes : List (Option Busy)) (l : State) (k : ℕ) (o : Option ℕ) → AreThose image fuel base entries lanes l
+begin_with : (fits : Fits) (image : Image) (fuel : ℕ) (base : Stored) (entries : List BatchRequest) (lanes : List (Option Busy)) (l : State) (k : ℕ) (o : Option ℕ) → LanesStandFor image fuel base entries lanes l
     → first_start (rules_on fits image fuel) (requests_of entries) l 0 (requests_of entries) ≡ o
-    → AreThose image fuel base entries (begun_with k o (slice_get lanes k) lanes) (started (rules_on fits image fuel) (requests_of entries) k o l)
+    → LanesStandFor image fuel base entries (begun_with k o (slice_get lanes k) lanes) (started (rules_on fits image fuel) (requests_of entries) k o l)
 begin_with fits image fuel base entries lanes l k None h e = h
 begin_with fits image fuel base entries lanes l k (Some n) h e =
     let st = startable fits image fuel (requests_of entries) l 0 n (requests_of entries) (λ i. ap (slice_get (requests_of entries)) (omega arith)) e in
-    subst (λ q. AreThose image fuel base entries (begun_with k (Some n) (slice_get lanes k) lanes) (starts (rules_on fits image fuel) (requests_of entries) k n q (slice_get l.lanes k) l)) (sym st.is)
+    subst (λ q. LanesStandFor image fuel base entries (begun_with k (Some n) (slice_get lanes k) lanes) (starts (rules_on fits image fuel) (requests_of entries) k n q (slice_get l.lanes k) l)) (sym st.is)
     (begin_by fits image fuel base entries lanes l k n h st (pair_at image fuel base entries lanes l.lanes k h.each))
 
 -- the schedule once an idle lane has started a request
-abbrev pub begun_state : Fits → Image → ℕ → List Entry → ℕ → State → State
+abbrev pub begun_state : Fits → Image → ℕ → List BatchRequest → ℕ → State → State
 begun_state fits image fuel entries k l =
     started (rules_on fits image fuel) (requests_of entries) k (first_start (rules_on fits image fuel) (requests_of entries) l 0 (requests_of entries)) l
 
-pub begin_stands : (fits : Fits) (image : Image) (fuel : ℕ) (base : Stored) (entries : List Entry) (lanes : List (Option Busy)) (l : State) (k : ℕ) → AreThose image fuel base entries lanes l
-    → AreThose image fuel base entries (begun entries k lanes) (begun_state fits image fuel entries k l)
+pub begin_stands : (fits : Fits) (image : Image) (fuel : ℕ) (base : Stored) (entries : List BatchRequest) (lanes : List (Option Busy)) (l : State) (k : ℕ) → LanesStandFor image fuel base entries lanes l
+    → LanesStandFor image fuel base entries (begun entries k lanes) (begun_state fits image fuel entries k l)
 begin_stands fits image fuel base entries lanes l k h =
-    subst (λ o. AreThose image fuel base entries (begun_with k o (slice_get lanes k) lanes) (begun_state fits image fuel entries k l)) (sym (first_same fits image fuel base entries lanes l h))
+    subst (λ o. LanesStandFor image fuel base entries (begun_with k o (slice_get lanes k) lanes) (begun_state fits image fuel entries k l)) (sym (first_same fits image fuel base entries lanes l h))
     (begin_with fits image fuel base entries lanes l k (first_start (rules_on fits image fuel) (requests_of entries) l 0 (requests_of entries)) h refl)
 
 -- No run has ended then.
@@ -217,7 +217,7 @@ starts_going fits image fuel batch l k n (Some q) (Some None) h = by (schedule.m
     by true = with_going l k (schedule.opened (rules_on fits image fuel) n q) refl h
     by false = h
 
-pub begin_going : (fits : Fits) (image : Image) (fuel : ℕ) (entries : List Entry) (l : State) (k : ℕ) → NoneHasEnded l → NoneHasEnded (begun_state fits image fuel entries k l)
+pub begin_going : (fits : Fits) (image : Image) (fuel : ℕ) (entries : List BatchRequest) (l : State) (k : ℕ) → NoneHasEnded l → NoneHasEnded (begun_state fits image fuel entries k l)
 begin_going fits image fuel entries l k h = by (first_start (rules_on fits image fuel) (requests_of entries) l 0 (requests_of entries))
   where
     by : (o : Option ℕ) → NoneHasEnded (started (rules_on fits image fuel) (requests_of entries) k o l)
@@ -227,21 +227,21 @@ begin_going fits image fuel entries l k h = by (first_start (rules_on fits image
 -- The slice.
 
 -- what a turn has led to, by the schedule with these rules
-pub record HasTurned (fits : Fits) (image : Image) (fuel : ℕ) (base : Stored) (entries : List Entry) (k : ℕ) (l : State) (lanes : List (Option Busy)) (told : Ended) : Type 0 where
-  pub state : AreThose image fuel base entries lanes l
+pub record HasTurned (fits : Fits) (image : Image) (fuel : ℕ) (base : Stored) (entries : List BatchRequest) (k : ℕ) (l : State) (lanes : List (Option Busy)) (outcome : SliceOutcome) : Type 0 where
+  pub state : LanesStandFor image fuel base entries lanes l
   pub others : OthersGoOn k l
-  pub tells : LaneTells base entries (slice_get l.lanes k) told
+  pub tells : LaneTells base entries (slice_get l.lanes k) outcome
 
-idle_ran : (fits : Fits) (image : Image) (fuel : ℕ) (base : Stored) (entries : List Entry) (lanes : List (Option Busy)) (l : State) (units k : ℕ) (b : Option Busy) (told : Ended) → AreThose image fuel base entries lanes l
-    → NoneHasEnded l → slice_get l.lanes k ≡ Some None → Ran image fuel base entries units None b told → HasTurned fits image fuel base entries k l (slice_set lanes k b) told
-idle_ran fits image fuel base entries lanes l units k b told h g e r = record {
+idle_ran : (fits : Fits) (image : Image) (fuel : ℕ) (base : Stored) (entries : List BatchRequest) (lanes : List (Option Busy)) (l : State) (units k : ℕ) (b : Option Busy) (outcome : SliceOutcome) → LanesStandFor image fuel base entries lanes l
+    → NoneHasEnded l → slice_get l.lanes k ≡ Some None → Ran image fuel base entries units None b outcome → HasTurned fits image fuel base entries k l (slice_set lanes k b) outcome
+idle_ran fits image fuel base entries lanes l units k b outcome h g e r = record {
   state = record {
     store = h.store;
     done = h.done;
     each = subst (λ ss. AreLanes image fuel base entries (slice_set lanes k b) ss) (set_same l.lanes k None e) (pair_set image fuel base entries lanes l.lanes k b None h.each r.is);
   };
   others = λ j d f n. g j d f;
-  tells = subst (λ y. LaneTells base entries y told) (sym e) r.tells;
+  tells = subst (λ y. LaneTells base entries y outcome) (sym e) r.tells;
 }
 
 others_with : (l : State) (k : ℕ) (s : Option BusyLane) → NoneHasEnded l → OthersGoOn k (with_lane k s l)
@@ -251,30 +251,30 @@ others_with l k s g = λ j d f n. by j d (set_cases l.lanes k j s (Some d) f) n
     by j d (inl f) n = absurd (n f.0)
     by j d (inr f) n = g j d f
 
-busy_ran : (fits : Fits) (image : Image) (fuel : ℕ) (base : Stored) (entries : List Entry) (lanes : List (Option Busy)) (l : State) (units k : ℕ) (s : BusyLane) (b : Option Busy) (told : Ended) → AreThose image fuel base entries lanes l
-    → NoneHasEnded l → slice_get l.lanes k ≡ Some (Some s) → Ran image fuel base entries units (Some s) b told
-    → HasTurned fits image fuel base entries k (with_lane k (Some (sliced (rules_on fits image fuel) l.store units s)) l) (slice_set lanes k b) told
-busy_ran fits image fuel base entries lanes l units k s b told h g e r =
+busy_ran : (fits : Fits) (image : Image) (fuel : ℕ) (base : Stored) (entries : List BatchRequest) (lanes : List (Option Busy)) (l : State) (units k : ℕ) (s : BusyLane) (b : Option Busy) (outcome : SliceOutcome) → LanesStandFor image fuel base entries lanes l
+    → NoneHasEnded l → slice_get l.lanes k ≡ Some (Some s) → Ran image fuel base entries units (Some s) b outcome
+    → HasTurned fits image fuel base entries k (with_lane k (Some (sliced (rules_on fits image fuel) l.store units s)) l) (slice_set lanes k b) outcome
+busy_ran fits image fuel base entries lanes l units k s b outcome h g e r =
     let is = ap (λ c. Some (sliced (rules_on fits image fuel) c units s)) (sym h.store) in
     record {
       state = with_pair image fuel base entries lanes l k b (Some (sliced (rules_on fits image fuel) l.store units s)) h (subst (λ y. IsLane image fuel base entries b y) is r.is);
       others = others_with l k (Some (sliced (rules_on fits image fuel) l.store units s)) g;
-      tells = subst (λ y. LaneTells base entries y told) (ap (λ y. Some y) is ∙ sym (set_get l.lanes k (Some (sliced (rules_on fits image fuel) l.store units s)) (Some s) e)) r.tells;
+      tells = subst (λ y. LaneTells base entries y outcome) (ap (λ y. Some y) is ∙ sym (set_get l.lanes k (Some (sliced (rules_on fits image fuel) l.store units s)) (Some s) e)) r.tells;
     }
 
-ran_by : (fits : Fits) (image : Image) (fuel : ℕ) (base : Stored) (entries : List Entry) (lanes : List (Option Busy)) (l : State) (units k : ℕ) (s : Option BusyLane) (b : Option Busy) (told : Ended) → AreThose image fuel base entries lanes l
-    → NoneHasEnded l → slice_get l.lanes k ≡ Some s → Ran image fuel base entries units s b told
-    → HasTurned fits image fuel base entries k (runs (rules_on fits image fuel) k units (Some s) l) (slice_set lanes k b) told
-ran_by fits image fuel base entries lanes l units k None b told h g e r = idle_ran fits image fuel base entries lanes l units k b told h g e r
-ran_by fits image fuel base entries lanes l units k (Some s) b told h g e r =
-    subst (λ x. HasTurned fits image fuel base entries k (if x then l else with_lane k (Some (sliced (rules_on fits image fuel) l.store units s)) l) (slice_set lanes k b) told) (sym (g k s e))
-    (busy_ran fits image fuel base entries lanes l units k s b told h g e r)
+ran_by : (fits : Fits) (image : Image) (fuel : ℕ) (base : Stored) (entries : List BatchRequest) (lanes : List (Option Busy)) (l : State) (units k : ℕ) (s : Option BusyLane) (b : Option Busy) (outcome : SliceOutcome) → LanesStandFor image fuel base entries lanes l
+    → NoneHasEnded l → slice_get l.lanes k ≡ Some s → Ran image fuel base entries units s b outcome
+    → HasTurned fits image fuel base entries k (runs (rules_on fits image fuel) k units (Some s) l) (slice_set lanes k b) outcome
+ran_by fits image fuel base entries lanes l units k None b outcome h g e r = idle_ran fits image fuel base entries lanes l units k b outcome h g e r
+ran_by fits image fuel base entries lanes l units k (Some s) b outcome h g e r =
+    subst (λ x. HasTurned fits image fuel base entries k (if x then l else with_lane k (Some (sliced (rules_on fits image fuel) l.store units s)) l) (slice_set lanes k b) outcome) (sym (g k s e))
+    (busy_ran fits image fuel base entries lanes l units k s b outcome h g e r)
 
-ran_stands : (fits : Fits) (image : Image) (fuel : ℕ) (base : Stored) (entries : List Entry) (lanes : List (Option Busy)) (l : State) (units k : ℕ) (s : Option BusyLane) (b : Option Busy) (told : Ended) → AreThose image fuel base entries lanes l
-    → NoneHasEnded l → slice_get l.lanes k ≡ Some s → Ran image fuel base entries units s b told
-    → HasTurned fits image fuel base entries k (step (rules_on fits image fuel) (requests_of entries) l (slice k units)) (slice_set lanes k b) told
-ran_stands fits image fuel base entries lanes l units k s b told h g e r =
-    subst (λ y. HasTurned fits image fuel base entries k (runs (rules_on fits image fuel) k units y l) (slice_set lanes k b) told) (sym e) (ran_by fits image fuel base entries lanes l units k s b told h g e r)
+ran_stands : (fits : Fits) (image : Image) (fuel : ℕ) (base : Stored) (entries : List BatchRequest) (lanes : List (Option Busy)) (l : State) (units k : ℕ) (s : Option BusyLane) (b : Option Busy) (outcome : SliceOutcome) → LanesStandFor image fuel base entries lanes l
+    → NoneHasEnded l → slice_get l.lanes k ≡ Some s → Ran image fuel base entries units s b outcome
+    → HasTurned fits image fuel base entries k (step (rules_on fits image fuel) (requests_of entries) l (slice k units)) (slice_set lanes k b) outcome
+ran_stands fits image fuel base entries lanes l units k s b outcome h g e r =
+    subst (λ y. HasTurned fits image fuel base entries k (runs (rules_on fits image fuel) k units y l) (slice_set lanes k b) outcome) (sym e) (ran_by fits image fuel base entries lanes l units k s b outcome h g e r)
 
 -- The turn.
 
@@ -293,7 +293,7 @@ begun_length k (Some n) None lanes = refl
 begun_length k (Some n) (Some None) lanes = set_length lanes k (Some (opened_busy n))
 begun_length k (Some n) (Some (Some b)) lanes = refl
 
-pub begun_within : (entries : List Entry) (k : ℕ) (lanes : List (Option Busy)) → k < length lanes → k < length (begun entries k lanes)
+pub begun_within : (entries : List BatchRequest) (k : ℕ) (lanes : List (Option Busy)) → k < length lanes → k < length (begun entries k lanes)
 begun_within entries k lanes h = subst (λ n. k < n) (sym (begun_length k (first_from entries lanes 0 entries) (slice_get lanes k) lanes)) h
 
 get_within : {A : Type 0} (xs : List A) (k : ℕ) → k < length xs → slice_get xs k ≡ None → ⊥
@@ -302,12 +302,12 @@ get_within (x ∷ xs) zero h e = none_is_some (sym e)
 get_within (x ∷ xs) (suc k) h e = get_within xs k (omega (arith, h)) e
 
 -- the lanes of a number, where there is one
-pub record Both (image : Image) (fuel : ℕ) (base : Stored) (entries : List Entry) (lanes : List (Option Busy)) (l : State) (k : ℕ) : Type 0 where
+pub record Both (image : Image) (fuel : ℕ) (base : Stored) (entries : List BatchRequest) (lanes : List (Option Busy)) (l : State) (k : ℕ) : Type 0 where
   pub lane : Option BusyLane
   pub lane_is : slice_get l.lanes k ≡ Some lane
   pub may : MayRun image fuel base entries (slice_index_or lanes k None) lane
 
-pub both_at : (image : Image) (fuel : ℕ) (base : Stored) (entries : List Entry) (lanes : List (Option Busy)) (l : State) (k : ℕ) → AreThose image fuel base entries lanes l → NoneHasEnded l → k < length lanes
+pub both_at : (image : Image) (fuel : ℕ) (base : Stored) (entries : List BatchRequest) (lanes : List (Option Busy)) (l : State) (k : ℕ) → LanesStandFor image fuel base entries lanes l → NoneHasEnded l → k < length lanes
     → Both image fuel base entries lanes l k
 both_at image fuel base entries lanes l k h g w = by (pair_at image fuel base entries lanes l.lanes k h.each)
   where
@@ -322,14 +322,14 @@ both_at image fuel base entries lanes l k h g w = by (pair_at image fuel base en
       };
     }
 
-pub had_turn : (image : Image) (fuel : ℕ) (base : Stored) (entries : List Entry) (units k : ℕ) (l : State) (old : List (Option Busy)) (b : Option Busy) (told : Ended) → AreThose image fuel base entries old l → NoneHasEnded l → k < length old
-    → ((s : Option BusyLane) → MayRun image fuel base entries (slice_index_or (begun entries k old) k None) s → Ran image fuel base entries units s b told)
-    → HadTurn image fuel base entries units k l (slice_set (begun entries k old) k b) told
-had_turn image fuel base entries units k l old b told h g w run = record { state = λ fits. (by fits).state; others = λ fits. (by fits).others; tells = λ fits. (by fits).tells }
+pub had_turn : (image : Image) (fuel : ℕ) (base : Stored) (entries : List BatchRequest) (units k : ℕ) (l : State) (old : List (Option Busy)) (b : Option Busy) (outcome : SliceOutcome) → LanesStandFor image fuel base entries old l → NoneHasEnded l → k < length old
+    → ((s : Option BusyLane) → MayRun image fuel base entries (slice_index_or (begun entries k old) k None) s → Ran image fuel base entries units s b outcome)
+    → HadTurn image fuel base entries units k l (slice_set (begun entries k old) k b) outcome
+had_turn image fuel base entries units k l old b outcome h g w run = record { state = λ fits. (by fits).state; others = λ fits. (by fits).others; tells = λ fits. (by fits).tells }
   where
-    by : (fits : Fits) → HasTurned fits image fuel base entries k (turned (rules_on fits image fuel) (requests_of entries) units k l) (slice_set (begun entries k old) k b) told
+    by : (fits : Fits) → HasTurned fits image fuel base entries k (turned (rules_on fits image fuel) (requests_of entries) units k l) (slice_set (begun entries k old) k b) outcome
     by fits =
         let begun_stands = begin_stands fits image fuel base entries old l k h in
         let going = begin_going fits image fuel entries l k g in
         let both = both_at image fuel base entries (begun entries k old) (begun_state fits image fuel entries k l) k begun_stands going (begun_within entries k old w) in
-        ran_stands fits image fuel base entries (begun entries k old) (begun_state fits image fuel entries k l) units k both.lane b told begun_stands going both.lane_is (run both.lane both.may)
+        ran_stands fits image fuel base entries (begun entries k old) (begun_state fits image fuel entries k l) units k both.lane b outcome begun_stands going both.lane_is (run both.lane both.may)

@@ -15,8 +15,8 @@ use Rattle.ob_heap.specs.declared.object.Object.{Object}
 use Rattle.ob_heap.specs.declared.object.Handle.{Handle}
 use Rattle.ob_heap.specs.declared.delta.Delta.{Delta}
 use Rattle.ob_exec.specs.declared.runs.Run.{Run}
-use Rattle.ob_lanes.specs.declared.entry.Busy.{Busy}
-use Rattle.ob_lanes.specs.declared.entry.Entry.{Entry}
+use Rattle.ob_lanes.specs.declared.batch.Busy.{Busy}
+use Rattle.ob_lanes.specs.declared.batch.BatchRequest.{BatchRequest}
 
 -- whether a delta has the object of a number
 abbrev pub has_object : ℕ → List (ObjectId × Object) → Bool
@@ -62,9 +62,9 @@ abbrev pub lane_at : List (Option Busy) → ℕ → Option Busy
 lane_at lanes k = slice_index_or lanes k None
 
 -- the request of a lane is answered
-abbrev pub answered_in : Option Busy → List Entry → List Entry
+abbrev pub answered_in : Option Busy → List BatchRequest → List BatchRequest
 answered_in None entries = entries
-answered_in (Some b) entries = option_map_or (λ (e : Entry). slice_set entries b.number (record e { is_done = true })) (slice_get entries b.number) entries
+answered_in (Some b) entries = option_map_or (λ (e : BatchRequest). slice_set entries b.number (record e { is_done = true })) (slice_get entries b.number) entries
 
 -- the lanes after the commit of one of them
 abbrev pub lanes_after : Stored → Delta → ℕ → List (Option Busy) → List (Option Busy)

@@ -10,7 +10,7 @@ use Rattle.ob_heap.specs.declared.delta.Delta.{Delta}
 use Rattle.ob_links.specs.declared.node.NodeId.{NodeId}
 use Rattle.ob_links.specs.Lists.{Pair, Linked, joined}
 use Rattle.ob_exec.specs.declared.runs.Run.{Run}
-use Rattle.ob_lanes.specs.declared.entry.Busy.{Busy}
+use Rattle.ob_lanes.specs.declared.batch.Busy.{Busy}
 use Rattle.ob_lanes.specs.Committing.{is_changed}
 
 -- Lists of lanes.

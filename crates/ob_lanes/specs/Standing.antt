@@ -21,15 +21,15 @@ use Rattle.ob_wire.specs.declared.request.Request as wire
 use Rattle.ob_exec_handles.specs.Coming.{ComesTo, LeadsTo, IsInLimits}
 use Rattle.ob_exec.specs.Pausing.{StandsFor, run_of}
 use Rattle.ob_exec.specs.declared.runs.Run.{Run}
-use Rattle.ob_exec.specs.declared.runs.Ended.{Ended}
-use Rattle.ob_exec.specs.declared.runs.Ended.TheVariants as ended
+use Rattle.ob_exec.specs.declared.runs.SliceOutcome.{SliceOutcome}
+use Rattle.ob_exec.specs.declared.runs.SliceOutcome.TheVariants as slice_outcome
 use Rattle.ob_lanes_laws.specs.Schedule.{Rules, is_done, step, commit}
 use Rattle.ob_lanes_laws.specs.Schedule as schedule
 use Rattle.ob_lanes_laws.specs.Requests.{Stores, Answer, has_ended, request_rules}
 use Rattle.ob_lanes_laws.specs.Turns.{turned, next_lane, is_answered}
 use Rattle.ob_lanes_laws.specs.Laws.{OfEach}
-use Rattle.ob_lanes.specs.declared.entry.Busy.{Busy}
-use Rattle.ob_lanes.specs.declared.entry.Entry.{Entry}
+use Rattle.ob_lanes.specs.declared.batch.Busy.{Busy}
+use Rattle.ob_lanes.specs.declared.batch.BatchRequest.{BatchRequest}
 use Rattle.ob_lanes.specs.Starting.{are_all_done}
 use Rattle.ob_lanes.specs.declared.lanes.Lanes.{Lanes}
 use Rattle.ob_lanes.specs.declared.lanes.Turn.{Turn}
@@ -80,15 +80,15 @@ AreReady image fuel base request given None = ⊥
 AreReady image fuel base request given (Some run) = IsReady image fuel base request given run
 
 -- What a run that has ended tells: the reply, and what differs in the store after it; and one that is paused nothing.
-abbrev pub Tells : Stored → ℤ → plain.Run → Ended → Type 0
-Tells base id (paused q reads p h) ended.Going = ⊤
-Tells base id (answered a) (ended.Yes reply delta) = (reply.id ≡ Some id) × ComesTo (invoked (invoked_by (content_of base) a)) base reply.answer delta
-Tells base id r told = ⊥
+abbrev pub Tells : Stored → ℤ → plain.Run → SliceOutcome → Type 0
+Tells base id (paused q reads p h) slice_outcome.Paused = ⊤
+Tells base id (answered a) (slice_outcome.Ended reply delta) = (reply.id ≡ Some id) × ComesTo (invoked (invoked_by (content_of base) a)) base reply.answer delta
+Tells base id r outcome = ⊥
 
 -- After one more slice the lane holds the run, which tells so.
-pub record Leads (image : Image) (fuel : ℕ) (base : Stored) (request : wire.Request) (units : ℕ) (given : List ℕ) (run : Option Run) (told : Ended) : Type 0 where
+pub record Leads (image : Image) (fuel : ℕ) (base : Stored) (request : wire.Request) (units : ℕ) (given : List ℕ) (run : Option Run) (outcome : SliceOutcome) : Type 0 where
   pub holds : Holds image fuel base request (units ∷ given) run
-  pub tells : Tells base request.id (given_run image fuel base request (units ∷ given)) told
+  pub tells : Tells base request.id (given_run image fuel base request (units ∷ given)) outcome
 
 -- Lanes.
 
@@ -131,44 +131,44 @@ abbrev pub State : Type 0
 State = schedule.Lanes Content Request plain.Run (Answer ⊤)
 
 -- A lane that is busy is so in the schedule: it has the same request, and holds its run.
-pub record IsBusy (image : Image) (fuel : ℕ) (base : Stored) (entries : List Entry) (b : Busy) (s : BusyLane) : Type 0 where
+pub record IsBusy (image : Image) (fuel : ℕ) (base : Stored) (entries : List BatchRequest) (b : Busy) (s : BusyLane) : Type 0 where
   pub number : b.number ≡ s.number
-  pub entry : Entry
+  pub entry : BatchRequest
   pub entry_is : slice_get entries b.number ≡ Some entry
   pub request : s.request ≡ request_of entry.request
   pub run : s.run ≡ given_run image fuel base entry.request s.given
   pub holds : Holds image fuel base entry.request s.given b.run
 
 -- a lane is one of the schedule
-abbrev pub IsLane : Image → ℕ → Stored → List Entry → Option Busy → Option BusyLane → Type 0
+abbrev pub IsLane : Image → ℕ → Stored → List BatchRequest → Option Busy → Option BusyLane → Type 0
 IsLane image fuel base entries None None = ⊤
 IsLane image fuel base entries (Some b) (Some s) = IsBusy image fuel base entries b s
 IsLane image fuel base entries b s = ⊥
 
 -- and these are those of the schedule
-abbrev pub AreLanes : Image → ℕ → Stored → List Entry → List (Option Busy) → List (Option BusyLane) → Type 0
+abbrev pub AreLanes : Image → ℕ → Stored → List BatchRequest → List (Option Busy) → List (Option BusyLane) → Type 0
 AreLanes image fuel base entries [] [] = ⊤
 AreLanes image fuel base entries (b ∷ bs) (s ∷ ss) = IsLane image fuel base entries b s × AreLanes image fuel base entries bs ss
 AreLanes image fuel base entries bs ss = ⊥
 
 -- the requests of a batch
-abbrev pub requests_of : List Entry → List Request
-requests_of entries = map (λ (e : Entry). request_of e.request) entries
+abbrev pub requests_of : List BatchRequest → List Request
+requests_of entries = map (λ (e : BatchRequest). request_of e.request) entries
 
 -- the requests of a batch as lanes keep them, with their numbers for the replies
 abbrev pub requests_kept : Lanes → List wire.Request
-requests_kept lanes = map (λ (e : Entry). e.request) lanes.entries.items
+requests_kept lanes = map (λ (e : BatchRequest). e.request) lanes.entries.items
 
 -- Lanes, and what is kept of the batch, stand for a state of the schedule on what a store holds.
-pub record AreThose (image : Image) (fuel : ℕ) (base : Stored) (entries : List Entry) (lanes : List (Option Busy)) (l : State) : Type 0 where
+pub record LanesStandFor (image : Image) (fuel : ℕ) (base : Stored) (entries : List BatchRequest) (lanes : List (Option Busy)) (l : State) : Type 0 where
   pub store : l.store ≡ content_of base
-  pub done : (n : ℕ) (e : Entry) → slice_get entries n ≡ Some e → is_done n l.done ≡ e.is_done
+  pub done : (n : ℕ) (e : BatchRequest) → slice_get entries n ≡ Some e → is_done n l.done ≡ e.is_done
   pub each : AreLanes image fuel base entries lanes l.lanes
 
 -- The code's lanes stand for a state of the schedule of a batch, on what a store holds.
 pub record StandFor (image : Image) (fuel : ℕ) (batch : List Request) (base : Stored) (lanes : Lanes) (l : State) : Type 0 where
   pub requests : batch ≡ requests_of lanes.entries.items
-  pub state : AreThose image fuel base lanes.entries.items lanes.lanes.items l
+  pub state : LanesStandFor image fuel base lanes.entries.items lanes.lanes.items l
   pub next : lanes.next < length lanes.lanes.items
   pub slice : 0 < lanes.slice
 
@@ -188,8 +188,8 @@ OthersGoOn k l = (j : ℕ) (b : BusyLane) → slice_get l.lanes j ≡ Some (Some
 abbrev pub AreIdle : State → Type 0
 AreIdle l = (k : ℕ) (b : BusyLane) → ¬ (slice_get l.lanes k ≡ Some (Some b))
 
--- a request of a batch that was just added
-abbrev pub waiting : wire.Request → Entry
+-- a request of a batch that has just begun
+abbrev pub waiting : wire.Request → BatchRequest
 waiting request = record { request = request; is_done = false }
 
 -- the schedule after a commit of a lane
@@ -201,10 +201,10 @@ abbrev pub AreInLimits : Image → ℕ → Stored → List Request → Type 0
 AreInLimits image fuel base batch = (n : ℕ) (q : Request) → slice_get batch n ≡ Some q → IsInLimits (machine_invocation image (content_of base) q fuel)
 
 -- what the lane of a number tells, if it is busy
-abbrev pub LaneTells : Stored → List Entry → Option (Option BusyLane) → Ended → Type 0
-LaneTells base entries (Some (Some b)) told = (e : Entry) → slice_get entries b.number ≡ Some e → Tells base e.request.id b.run told
-LaneTells base entries lane ended.Going = ⊤
-LaneTells base entries lane (ended.Yes reply delta) = ⊥
+abbrev pub LaneTells : Stored → List BatchRequest → Option (Option BusyLane) → SliceOutcome → Type 0
+LaneTells base entries (Some (Some b)) outcome = (e : BatchRequest) → slice_get entries b.number ≡ Some e → Tells base e.request.id b.run outcome
+LaneTells base entries lane slice_outcome.Paused = ⊤
+LaneTells base entries lane (slice_outcome.Ended reply delta) = ⊥
 
 -- whether a lane of the schedule has a run that hasn't ended
 abbrev pub is_going : Option BusyLane → Bool
@@ -212,7 +212,7 @@ is_going None = true
 is_going (Some s) = not (has_ended s.run)
 
 -- A lane may run for a slice: it is this one of the schedule, whose run hasn't ended.
-pub record MayRun (image : Image) (fuel : ℕ) (base : Stored) (entries : List Entry) (b : Option Busy) (s : Option BusyLane) : Type 0 where
+pub record MayRun (image : Image) (fuel : ℕ) (base : Stored) (entries : List BatchRequest) (b : Option Busy) (s : Option BusyLane) : Type 0 where
   pub is : IsLane image fuel base entries b s
   pub going : is_going s ≡ true
 
@@ -222,29 +222,29 @@ lane_ran image fuel base units None = None
 lane_ran image fuel base units (Some s) = Some (record s { given = units ∷ s.given; run = slice image fuel (content_of base) units s.run })
 
 -- It has run for a slice, and tells so.
-pub record Ran (image : Image) (fuel : ℕ) (base : Stored) (entries : List Entry) (units : ℕ) (s : Option BusyLane) (b : Option Busy) (told : Ended) : Type 0 where
+pub record Ran (image : Image) (fuel : ℕ) (base : Stored) (entries : List BatchRequest) (units : ℕ) (s : Option BusyLane) (b : Option Busy) (outcome : SliceOutcome) : Type 0 where
   pub is : IsLane image fuel base entries b (lane_ran image fuel base units s)
-  pub tells : LaneTells base entries (Some (lane_ran image fuel base units s)) told
+  pub tells : LaneTells base entries (Some (lane_ran image fuel base units s)) outcome
 
 -- a lane has had its turn, up to its commit, and its run tells so
-pub record HadTurn (image : Image) (fuel : ℕ) (base : Stored) (entries : List Entry) (units k : ℕ) (l : State) (lanes : List (Option Busy)) (told : Ended) : Type 0 where
-  pub state : (fits : Fits) → AreThose image fuel base entries lanes (turned (rules_on fits image fuel) (requests_of entries) units k l)
+pub record HadTurn (image : Image) (fuel : ℕ) (base : Stored) (entries : List BatchRequest) (units k : ℕ) (l : State) (lanes : List (Option Busy)) (outcome : SliceOutcome) : Type 0 where
+  pub state : (fits : Fits) → LanesStandFor image fuel base entries lanes (turned (rules_on fits image fuel) (requests_of entries) units k l)
   pub others : (fits : Fits) → OthersGoOn k (turned (rules_on fits image fuel) (requests_of entries) units k l)
-  pub tells : (fits : Fits) → LaneTells base entries (slice_get (turned (rules_on fits image fuel) (requests_of entries) units k l).lanes k) told
+  pub tells : (fits : Fits) → LaneTells base entries (slice_get (turned (rules_on fits image fuel) (requests_of entries) units k l).lanes k) outcome
 
 -- What a turn of a lane answers in a state of the schedule, and whose turn is next: the reply of the lane's run, which has ended, and what
 -- differs in the store after it; that nothing commits, and there is something left to answer; or that there is nothing left.
-abbrev pub Answers : Stored → List Request → List Entry → ℕ → State → Turn → ℕ → Type 0
-Answers base batch entries k l (Commit reply delta) next = LaneTells base entries (slice_get l.lanes k) (ended.Yes reply delta) × EndsAlone k l × (next ≡ k)
+abbrev pub Answers : Stored → List Request → List BatchRequest → ℕ → State → Turn → ℕ → Type 0
+Answers base batch entries k l (Commit reply delta) next = LaneTells base entries (slice_get l.lanes k) (slice_outcome.Ended reply delta) × EndsAlone k l × (next ≡ k)
 Answers base batch entries k l Going next =
     NoneHasEnded l × (is_answered batch l ≡ false) × (next ≡ next_lane (length l.lanes) k)
 Answers base batch entries k l Done next =
     NoneHasEnded l × (is_answered batch l ≡ true) × (next ≡ next_lane (length l.lanes) k)
 
--- What a turn answers and whose turn is next, by what the lane's run has told and what is kept.
-abbrev pub Told : Lanes → Ended → ℕ → Turn → Type 0
-Told lanes (ended.Yes reply delta) next turn = (turn ≡ Commit reply delta) × (next ≡ lanes.next)
-Told lanes ended.Going next turn =
+-- What a turn comes to and whose turn is next, by what its slice has led to and what is kept of the batch.
+abbrev pub TurnComesTo : Lanes → SliceOutcome → ℕ → Turn → Type 0
+TurnComesTo lanes (slice_outcome.Ended reply delta) next turn = (turn ≡ Commit reply delta) × (next ≡ lanes.next)
+TurnComesTo lanes slice_outcome.Paused next turn =
     (turn ≡ (if are_all_done lanes.entries.items then Done else Going)) × (next ≡ next_lane (length lanes.lanes.items) lanes.next)
 
 -- A turn has made its events, up to the commit, and answers so.
@@ -269,8 +269,8 @@ abbrev pub run_at : List (Option Busy) → ℕ → Option Run
 run_at lanes k = run_of_lane (slice_get lanes k)
 
 -- what is lent of a lane of the schedule: what it holds of its run
-abbrev pub Lends : Image → ℕ → Stored → List Entry → Option (Option BusyLane) → Option Run → Type 0
-Lends image fuel base entries (Some (Some s)) lent = (e : Entry) → slice_get entries s.number ≡ Some e → Holds image fuel base e.request s.given lent
+abbrev pub Lends : Image → ℕ → Stored → List BatchRequest → Option (Option BusyLane) → Option Run → Type 0
+Lends image fuel base entries (Some (Some s)) lent = (e : BatchRequest) → slice_get entries s.number ≡ Some e → Holds image fuel base e.request s.given lent
 Lends image fuel base entries lane lent = lent ≡ None
 
 -- Commits.

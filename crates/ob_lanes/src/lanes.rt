@@ -1,5 +1,5 @@
 //! Lanes of a batch.
-ghost use Rattle.std.specs.Prelude.{◌≡◌, ℕ, ◌<◌, ◌≤◌, List, [], length, map, slice_get, Some, IfOk, OnOk};
+ghost use Rattle.std.specs.Prelude.{◌≡◌, ℕ, ◌<◌, ◌≤◌, List, [], length, map, slice_get, Some, IfOk, OnOk, OnErr};
 ghost use Rattle.std.specs.Option.{option_copied};
 ghost use Rattle.ob_base.specs.Limits.{most_handles};
 ghost use Rattle.ob_code.specs.declared.image.Image.{Image as Code};
@@ -9,17 +9,18 @@ ghost use Rattle.ob_heap.specs.Deltas.{IsDelta};
 ghost use Rattle.ob_invocation_spec.specs.Requests.{Request as Asked};
 ghost use Rattle.ob_owners.specs.Spots.{owner_place};
 ghost use Rattle.ob_wire.specs.Meanings.{request_of};
+ghost use Rattle.ob_wire.specs.Requests.{most_requests};
 ghost use Rattle.ob_exec_entries.specs.Naming.{IsNamesOf};
 ghost use Rattle.ob_lanes_laws.specs.Schedule.{idle};
 ghost use Rattle.ob_lanes_laws.specs.Turns.{next_lane};
-ghost use Rattle.ob_lanes.specs.Standing.{State, StandFor, CanTurn, Turned, Told, Waits, Commits, Lends, AreIdle, waiting, requests_kept, run_of_lane, run_at};
+ghost use Rattle.ob_lanes.specs.Standing.{State, StandFor, CanTurn, Turned, TurnComesTo, Waits, Commits, Lends, AreIdle, waiting, requests_kept, run_of_lane, run_at};
 
-use crate::entry::{Busy, Entry};
-use crate::going::Going;
+use crate::batch::{BatchRequest, Busy};
+use crate::lane_run::LaneRun;
 use crate::listed::Listed;
 use crate::starting::are_all_done;
 use ob_base::{Items, Memory};
-use ob_exec::{Ended, Run};
+use ob_exec::{Run, SliceOutcome};
 use ob_exec_entries::Names;
 use ob_heap::{Content, Delta};
 use ob_owners::Index;
@@ -35,7 +36,7 @@ pub struct Lanes {
     slice: u32,
     // The lane whose turn is next; or whose commit is waited for.
     next: usize,
-    entries: Vec<Entry>,
+    entries: Vec<BatchRequest>,
     lanes: Listed,
 }
 
@@ -59,13 +60,13 @@ fn after_lane(lane: usize, count: usize) -> usize
 }
 
 // The requests of a batch, none of which is answered.
-fn entries_of(alloc: Global, mut batch: Items<Request>) -> Result<Vec<Entry>, Memory>
+fn entries_of(alloc: Global, mut batch: Items<Request>) -> Result<Vec<BatchRequest>, Memory>
     ensures { IfOk result (λ entries. entries.items ≡ map waiting batch) }
 {
     let mut entries = Vec::new(alloc);
     while !batch.is_empty() {
         let request = batch.remove(0);
-        entries.push(Entry {
+        entries.push(BatchRequest {
             request,
             is_done: false,
         })?;
@@ -74,7 +75,7 @@ fn entries_of(alloc: Global, mut batch: Items<Request>) -> Result<Vec<Entry>, Me
 }
 
 // A run as it is lent.
-fn lent(run: &Option<Going>) -> Option<&Run>
+fn lent(run: &Option<LaneRun>) -> Option<&Run>
     ensures { option_copied result ≡ run.now }
 {
     match run {
@@ -115,20 +116,22 @@ impl Lanes {
         })
     }
 
-    /// A batch of requests, of which none is under way. The next turn is that of the first lane.
+    /// The lanes, which are idle, begin a batch of requests, of which none is under way; an earlier batch goes. The next turn is that of
+    /// the first lane.
     ///
     /// # Errors
     ///
-    /// `Memory` where memory runs out; the lanes are to be dropped then.
-    pub fn add(&mut self, alloc: Global, batch: Items<Request>) -> Result<(), Memory>
+    /// `Memory` where memory runs out. The lanes are as before.
+    pub fn begin_batch(&mut self, alloc: Global, batch: Items<Request>) -> Result<(), Memory>
         requires some { 0 < length batch }
-        requires few { length batch ≤ 64 }
+        requires few { length batch ≤ most_requests }
         requires idle { (image : Code) × (fuel : ℕ) × (before : List Asked) × (base : Stored) × (l : State) × StandFor image fuel before base self.old l × AreIdle l }
         ensures stand { OnOk result ((image : Code) (fuel : ℕ) (base : Stored) → StandFor image fuel (map request_of batch) base self.new (idle (content_of base) (length self.old.lanes.items))) }
         ensures requests { OnOk result (requests_kept self.new ≡ batch) }
         ensures next { OnOk result (self.new.next ≡ 0) }
         ensures slice { OnOk result (self.new.slice ≡ self.old.slice) }
         ensures count { OnOk result (length self.new.lanes.items ≡ length self.old.lanes.items) }
+        ensures err { OnErr result (self.new ≡ self.old) }
     {
         let entries = entries_of(alloc, batch)?;
         let lanes = Listed::new(alloc, self.lanes.len())?;
@@ -138,17 +141,17 @@ impl Lanes {
         Ok(())
     }
 
-    // What a turn answers, by what the lane's run has told.
-    fn told(&mut self, told: Ended) -> Turn
+    // What a turn comes to, by what its slice has led to.
+    fn turn_of(&mut self, outcome: SliceOutcome) -> Turn
         requires { self.old.next < length self.old.lanes.items }
-        ensures told { Told self.old told self.new.next result }
+        ensures turn { TurnComesTo self.old outcome self.new.next result }
         ensures slice { self.new.slice ≡ self.old.slice }
         ensures entries { self.new.entries ≡ self.old.entries }
         ensures lanes { self.new.lanes ≡ self.old.lanes }
     {
-        match told {
-            Ended::Yes(reply, delta) => Turn::Commit(reply, delta),
-            Ended::Going => {
+        match outcome {
+            SliceOutcome::Ended(reply, delta) => Turn::Commit(reply, delta),
+            SliceOutcome::Paused => {
                 self.next = after_lane(self.next, self.lanes.len());
                 if are_all_done(&self.entries) {
                     Turn::Done
@@ -184,7 +187,7 @@ impl Lanes {
     {
         let lane = self.next;
         let units = self.slice;
-        let told = self.lanes.turn(
+        let outcome = self.lanes.turn(
             alloc,
             code,
             names,
@@ -195,7 +198,7 @@ impl Lanes {
             fuel,
             units,
         )?;
-        Ok(self.told(told))
+        Ok(self.turn_of(outcome))
     }
 
     /// The commit that the last turn answered is made: `before` is what the store held, and `delta` is what is committed, which is empty

@@ -1,8 +1,8 @@
 //! Batches of requests in lanes: each lane runs a request in slices, and what has read something that a commit changes runs again.
 #![tactic(auto)]
 
-mod entry;
-mod going;
+mod batch;
+mod lane_run;
 mod lanes;
 mod laws;
 mod listed;

@@ -1,5 +1,5 @@
 //! Lanes, and which objects the run of each has read.
-ghost use Rattle.std.specs.Prelude.{◌≡◌, ℕ, ◌<◌, ◌≤◌, length, Option, None, replicate, IfOk};
+ghost use Rattle.std.specs.Prelude.{◌≡◌, ℕ, ◌<◌, ◌≤◌, length, slice_set, Option, None, replicate, IfOk, OnErr};
 ghost use Rattle.ob_base.specs.Limits.{most_handles};
 ghost use Rattle.ob_code_table.specs.ImageTables.{table_of_image};
 ghost use Rattle.ob_heap.specs.Contents.{content_of};
@@ -7,13 +7,13 @@ ghost use Rattle.ob_heap.specs.Deltas.{IsDelta};
 ghost use Rattle.ob_owners.specs.Spots.{owner_place};
 ghost use Rattle.ob_exec_entries.specs.Naming.{IsNamesOf};
 ghost use Rattle.ob_lanes.specs.Committing.{answered_in, lane_at, lanes_after};
-ghost use Rattle.ob_lanes.specs.Standing.{State, AreInLimits, AreThose, NoneHasEnded, HadTurn, requests_of};
+ghost use Rattle.ob_lanes.specs.Standing.{State, AreInLimits, LanesStandFor, NoneHasEnded, HadTurn, requests_of};
 
-use crate::entry::{Busy, Entry};
+use crate::batch::{BatchRequest, Busy};
 use crate::readers::Readers;
 use crate::turning::{commit_lane, turn_listed};
 use ob_base::Memory;
-use ob_exec::Ended;
+use ob_exec::SliceOutcome;
 use ob_exec_entries::Names;
 use ob_heap::{Content, Delta};
 use ob_owners::Index;
@@ -31,7 +31,7 @@ pub struct Listed {
 impl Model for Listed {
     ghost use Rattle.std.specs.Prelude.{◌≡◌, Option, map};
     ghost use Rattle.std.specs.Global.{Vec};
-    ghost use Rattle.ob_lanes.specs.declared.entry.Busy.{Busy};
+    ghost use Rattle.ob_lanes.specs.declared.batch.Busy.{Busy};
     ghost use Rattle.ob_lanes.specs.Readers.{objects_read};
 
     ghost Value = { Vec (Option Busy) };
@@ -80,7 +80,7 @@ impl Listed {
         self.lanes.len()
     }
 
-    /// A turn of a lane, up to its commit.
+    /// A turn of a lane, up to its commit. Each other lane stays as it is.
     ///
     /// # Errors
     ///
@@ -92,18 +92,20 @@ impl Listed {
         names: &Names,
         content: &Content,
         index: &I,
-        entries: &[Entry],
+        entries: &[BatchRequest],
         lane: usize,
         fuel: u32,
         units: u32,
-    ) -> Result<Ended, Memory>
+    ) -> Result<SliceOutcome, Memory>
         requires names { IsNamesOf names.now code.now }
         requires index { (n : ℕ) → I.owner index.now n ≡ owner_place (table_of_image code.now) (content_of content.now) n }
         requires right { AreInLimits code.now fuel content.now (requests_of entries.now) }
         requires lane { lane < length self.old.items }
-        requires those { (l : State) × AreThose code.now fuel content.now entries.now self.old.items l × NoneHasEnded l }
-        ensures had { (l : State) → AreThose code.now fuel content.now entries.now self.old.items l → NoneHasEnded l
+        requires those { (l : State) × LanesStandFor code.now fuel content.now entries.now self.old.items l × NoneHasEnded l }
+        ensures had { (l : State) → LanesStandFor code.now fuel content.now entries.now self.old.items l → NoneHasEnded l
             → IfOk result (HadTurn code.now fuel content.now entries.now units lane l self.new.items) }
+        ensures idle { OnErr result (lane_at self.new.items lane ≡ None) }
+        ensures stay { self.new.items ≡ slice_set self.old.items lane (lane_at self.new.items lane) }
         ensures count { length self.new.items ≡ length self.old.items }
     {
         turn_listed(
@@ -122,7 +124,13 @@ impl Listed {
     }
 
     /// The request of a lane is answered, and each other lane whose run is stale opens its request again. It takes no memory.
-    pub fn commit(&mut self, before: &Content, delta: &Delta, lane: usize, entries: &mut [Entry])
+    pub fn commit(
+        &mut self,
+        before: &Content,
+        delta: &Delta,
+        lane: usize,
+        entries: &mut [BatchRequest],
+    )
         requires few { length before.now.handles ≤ most_handles }
         requires delta { IsDelta before.now delta.now }
         requires lane { lane < length self.old.items }

@@ -9,9 +9,9 @@ ghost use Rattle.ob_exec_entries.specs.Naming.{IsNamesOf};
 ghost use Rattle.ob_exec_handles.specs.Coming.{IsInLimits};
 ghost use Rattle.ob_lanes.specs.Standing.{GoesOn, AreReady, Leads};
 
-use crate::going::Going;
+use crate::lane_run::LaneRun;
 use ob_base::{Duplicate, Memory};
-use ob_exec::{Ended, Run};
+use ob_exec::{Run, SliceOutcome};
 use ob_exec_entries::Names;
 use ob_heap::Content;
 use ob_owners::Index;
@@ -26,7 +26,7 @@ fn ready<I: Index>(
     names: &Names,
     content: &Content,
     index: &I,
-    run: &mut Option<Going>,
+    run: &mut Option<LaneRun>,
     request: &Request,
     fuel: u32,
 ) -> Result<(), Memory>
@@ -41,7 +41,7 @@ fn ready<I: Index>(
     }
     let asked = request.copy(alloc)?;
     let started = Run::start(alloc, code, names, content, index, asked, fuel);
-    *run = Some(Going::new(alloc, started)?);
+    *run = Some(LaneRun::new(alloc, started)?);
     Ok(())
 }
 
@@ -52,11 +52,11 @@ pub fn slice<I: Index>(
     names: &Names,
     content: &Content,
     index: &I,
-    run: &mut Option<Going>,
+    run: &mut Option<LaneRun>,
     request: &Request,
     fuel: u32,
     units: u32,
-) -> Result<Ended, Memory>
+) -> Result<SliceOutcome, Memory>
     requires names { IsNamesOf names.now code.now }
     requires index { (n : ℕ) → I.owner index.now n ≡ owner_place (table_of_image code.now) (content_of content.now) n }
     requires right { IsInLimits (machine_invocation code.now (content_of content.now) (request_of request.now) fuel) }
@@ -66,7 +66,7 @@ pub fn slice<I: Index>(
 {
     ready(alloc, code, names, content, index, run, request, fuel)?;
     match run {
-        Some(going) => going.slice(code, content, units),
+        Some(lane_run) => lane_run.slice(code, content, units),
         None => unreachable!(),
     }
 }

@@ -14,8 +14,8 @@ ghost use Rattle.ob_exec.specs.declared.runs.Run.{Run};
 ghost use Rattle.ob_lanes.specs.Committing.{has_new, has_handle, is_full, counted_with, lane_at, reopened};
 ghost use Rattle.ob_lanes.specs.Readers.{run_in, objects_read, is_other_changed, is_other_stale, freed, freed_by, freed_by_all, freed_by_others};
 
-use crate::entry::Busy;
-use crate::going::Going;
+use crate::batch::Busy;
+use crate::lane_run::LaneRun;
 use crate::readers::Readers;
 use ob_base::{Label, MOST_HANDLES, ObjectId};
 use ob_exec_handles::ReadItem;
@@ -128,7 +128,7 @@ fn is_one_changed(before: &Content, delta: &Delta, items: &[ReadItem]) -> bool
 }
 
 // Whether it changes something that a run has read and that is no object.
-fn is_stale(before: &Content, delta: &Delta, run: &Option<Going>) -> bool
+fn is_stale(before: &Content, delta: &Delta, run: &Option<LaneRun>) -> bool
     requires few { length before.now.handles ≤ most_handles }
     requires delta { IsDelta before.now delta.now }
     ensures { result ≡ is_other_stale before.now delta.now run.now }

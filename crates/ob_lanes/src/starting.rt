@@ -2,7 +2,7 @@
 ghost use Rattle.std.specs.Prelude.{◌≡◌, ◌<◌, length, bytes_eq};
 ghost use Rattle.ob_lanes.specs.Starting.{is_held, are_earlier_done, first_from, begun, are_all_done};
 
-use crate::entry::{Busy, Entry};
+use crate::batch::{BatchRequest, Busy};
 use ob_base::Label;
 
 fn is_held(lanes: &[Option<Busy>], number: usize) -> bool
@@ -24,7 +24,7 @@ fn is_same_label(one: &Label, other: &Label) -> bool
     one.as_bytes() == other.as_bytes()
 }
 
-fn are_earlier_done(entries: &[Entry], number: usize, who: &Label) -> bool
+fn are_earlier_done(entries: &[BatchRequest], number: usize, who: &Label) -> bool
     ensures { result ≡ are_earlier_done who.now number 0 entries.now }
 {
     for (at, entry) in entries.iter().enumerate() {
@@ -38,7 +38,7 @@ fn are_earlier_done(entries: &[Entry], number: usize, who: &Label) -> bool
     true
 }
 
-fn first_startable(entries: &[Entry], lanes: &[Option<Busy>]) -> Option<usize>
+fn first_startable(entries: &[BatchRequest], lanes: &[Option<Busy>]) -> Option<usize>
     ensures { result ≡ first_from entries.now lanes.now 0 entries.now }
 {
     for (at, entry) in entries.iter().enumerate() {
@@ -53,7 +53,7 @@ fn first_startable(entries: &[Entry], lanes: &[Option<Busy>]) -> Option<usize>
 }
 
 /// An idle lane starts the first request that may start.
-pub fn begin(entries: &[Entry], lanes: &mut [Option<Busy>], lane: usize)
+pub fn begin(entries: &[BatchRequest], lanes: &mut [Option<Busy>], lane: usize)
     requires { lane < length lanes.old }
     ensures { lanes.new ≡ begun entries.now lane lanes.old }
 {
@@ -65,7 +65,7 @@ pub fn begin(entries: &[Entry], lanes: &mut [Option<Busy>], lane: usize)
 }
 
 /// Whether all requests are answered.
-pub fn are_all_done(entries: &[Entry]) -> bool
+pub fn are_all_done(entries: &[BatchRequest]) -> bool
     ensures { result ≡ are_all_done entries.now }
 {
     for entry in entries {

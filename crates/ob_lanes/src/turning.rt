@@ -1,5 +1,5 @@
 //! The turn of a lane, up to its commit.
-ghost use Rattle.std.specs.Prelude.{◌≡◌, ℕ, ◌<◌, ◌≤◌, [], length, map, slice_set, slice_index_or, Option, Some, None, IfOk, OnOk};
+ghost use Rattle.std.specs.Prelude.{◌≡◌, ℕ, ◌<◌, ◌≤◌, [], length, map, slice_set, slice_index_or, Option, Some, None, IfOk, OnOk, OnErr};
 ghost use Rattle.ob_code_table.specs.ImageTables.{table_of_image};
 ghost use Rattle.ob_heap.specs.Contents.{content_of};
 ghost use Rattle.ob_owners.specs.Spots.{owner_place};
@@ -8,16 +8,16 @@ ghost use Rattle.ob_heap.specs.Deltas.{IsDelta};
 ghost use Rattle.ob_base.specs.Limits.{most_handles};
 ghost use Rattle.ob_lanes.specs.Committing.{answered_in, lane_at, lanes_after};
 ghost use Rattle.ob_lanes.specs.Readers.{items_read, objects_of, objects_read};
-ghost use Rattle.ob_lanes.specs.Standing.{State, BusyLane, AreInLimits, AreThose, NoneHasEnded, HadTurn, MayRun, Ran, requests_of};
+ghost use Rattle.ob_lanes.specs.Standing.{State, BusyLane, AreInLimits, LanesStandFor, NoneHasEnded, HadTurn, MayRun, Ran, requests_of};
 
-use crate::entry::{Busy, Entry};
-use crate::going::Going;
+use crate::batch::{BatchRequest, Busy};
+use crate::lane_run::LaneRun;
 use crate::readers::Readers;
 use crate::slicing::slice;
 use crate::stale::reopen;
 use crate::starting::begin;
 use ob_base::Memory;
-use ob_exec::Ended;
+use ob_exec::SliceOutcome;
 use ob_exec_entries::Names;
 use ob_heap::{Content, Delta};
 use ob_owners::Index;
@@ -31,11 +31,11 @@ fn run_busy<I: Index>(
     names: &Names,
     content: &Content,
     index: &I,
-    entries: &[Entry],
+    entries: &[BatchRequest],
     busy: &mut Busy,
     fuel: u32,
     units: u32,
-) -> Result<Ended, Memory>
+) -> Result<SliceOutcome, Memory>
     requires names { IsNamesOf names.now code.now }
     requires index { (n : ℕ) → I.owner index.now n ≡ owner_place (table_of_image code.now) (content_of content.now) n }
     requires right { AreInLimits code.now fuel content.now (requests_of entries.now) }
@@ -64,11 +64,11 @@ fn run_lane<I: Index>(
     names: &Names,
     content: &Content,
     index: &I,
-    entries: &[Entry],
+    entries: &[BatchRequest],
     lane: &mut Option<Busy>,
     fuel: u32,
     units: u32,
-) -> Result<Ended, Memory>
+) -> Result<SliceOutcome, Memory>
     requires names { IsNamesOf names.now code.now }
     requires index { (n : ℕ) → I.owner index.now n ≡ owner_place (table_of_image code.now) (content_of content.now) n }
     requires right { AreInLimits code.now fuel content.now (requests_of entries.now) }
@@ -80,7 +80,8 @@ fn run_lane<I: Index>(
         Some(busy) => run_busy(
             alloc, code, names, content, index, entries, busy, fuel, units,
         ),
-        None => Ok(Ended::Going),
+        // An idle lane runs nothing.
+        None => Ok(SliceOutcome::Paused),
     }
 }
 
@@ -91,18 +92,18 @@ fn turn_lane<I: Index>(
     names: &Names,
     content: &Content,
     index: &I,
-    entries: &[Entry],
+    entries: &[BatchRequest],
     lanes: &mut [Option<Busy>],
     lane: usize,
     fuel: u32,
     units: u32,
-) -> Result<Ended, Memory>
+) -> Result<SliceOutcome, Memory>
     requires names { IsNamesOf names.now code.now }
     requires index { (n : ℕ) → I.owner index.now n ≡ owner_place (table_of_image code.now) (content_of content.now) n }
     requires right { AreInLimits code.now fuel content.now (requests_of entries.now) }
     requires lane { lane < length lanes.old }
-    requires those { (l : State) × AreThose code.now fuel content.now entries.now lanes.old l × NoneHasEnded l }
-    ensures had { (l : State) → AreThose code.now fuel content.now entries.now lanes.old l → NoneHasEnded l
+    requires those { (l : State) × LanesStandFor code.now fuel content.now entries.now lanes.old l × NoneHasEnded l }
+    ensures had { (l : State) → LanesStandFor code.now fuel content.now entries.now lanes.old l → NoneHasEnded l
         → IfOk result (HadTurn code.now fuel content.now entries.now units lane l lanes.new) }
     ensures stay { lanes.new ≡ slice_set lanes.old lane (lane_at lanes.new lane) }
 {
@@ -121,7 +122,7 @@ fn turn_lane<I: Index>(
 }
 
 // Notes which objects the run of a lane has read.
-fn enter_run(run: &Option<Going>, readers: &mut Readers, lane: usize) -> Result<(), Memory>
+fn enter_run(run: &Option<LaneRun>, readers: &mut Readers, lane: usize) -> Result<(), Memory>
     requires lane { lane < length readers.old }
     ensures ok { OnOk result (readers.new ≡ slice_set readers.old lane (objects_of (items_read run.now))) }
     ensures stay { readers.new ≡ slice_set readers.old lane (slice_index_or readers.new lane []) }
@@ -157,61 +158,67 @@ fn turn_entered<I: Index>(
     names: &Names,
     content: &Content,
     index: &I,
-    entries: &[Entry],
+    entries: &[BatchRequest],
     lanes: &mut [Option<Busy>],
     readers: &mut Readers,
     lane: usize,
     fuel: u32,
     units: u32,
-) -> Result<Ended, Memory>
+) -> Result<SliceOutcome, Memory>
     requires names { IsNamesOf names.now code.now }
     requires index { (n : ℕ) → I.owner index.now n ≡ owner_place (table_of_image code.now) (content_of content.now) n }
     requires right { AreInLimits code.now fuel content.now (requests_of entries.now) }
     requires lane { lane < length lanes.old }
-    requires those { (l : State) × AreThose code.now fuel content.now entries.now lanes.old l × NoneHasEnded l }
+    requires those { (l : State) × LanesStandFor code.now fuel content.now entries.now lanes.old l × NoneHasEnded l }
     requires entered { readers.old ≡ map objects_read lanes.old }
-    ensures had { (l : State) → AreThose code.now fuel content.now entries.now lanes.old l → NoneHasEnded l
+    ensures had { (l : State) → LanesStandFor code.now fuel content.now entries.now lanes.old l → NoneHasEnded l
         → IfOk result (HadTurn code.now fuel content.now entries.now units lane l lanes.new) }
     ensures entered { OnOk result (readers.new ≡ map objects_read lanes.new) }
     ensures stay { lanes.new ≡ slice_set lanes.old lane (lane_at lanes.new lane) }
     ensures readers { readers.new ≡ slice_set readers.old lane (slice_index_or readers.new lane []) }
 {
-    let told = turn_lane(
+    let outcome = turn_lane(
         alloc, code, names, content, index, entries, lanes, lane, fuel, units,
     )?;
     enter_lane(&lanes[lane], readers, lane)?;
-    Ok(told)
+    Ok(outcome)
 }
 
-/// A turn of a lane, up to its commit. The readers are those of the lanes, before and after. Where memory runs out, the lane is idle.
+/// A turn of a lane, up to its commit. The readers are those of the lanes, before and after. Each other lane stays as it is.
+///
+/// # Errors
+///
+/// `Memory` where memory runs out. The lane is idle then.
 pub fn turn_listed<I: Index>(
     alloc: Global,
     code: &Verified,
     names: &Names,
     content: &Content,
     index: &I,
-    entries: &[Entry],
+    entries: &[BatchRequest],
     lanes: &mut [Option<Busy>],
     readers: &mut Readers,
     lane: usize,
     fuel: u32,
     units: u32,
-) -> Result<Ended, Memory>
+) -> Result<SliceOutcome, Memory>
     requires names { IsNamesOf names.now code.now }
     requires index { (n : ℕ) → I.owner index.now n ≡ owner_place (table_of_image code.now) (content_of content.now) n }
     requires right { AreInLimits code.now fuel content.now (requests_of entries.now) }
     requires lane { lane < length lanes.old }
-    requires those { (l : State) × AreThose code.now fuel content.now entries.now lanes.old l × NoneHasEnded l }
+    requires those { (l : State) × LanesStandFor code.now fuel content.now entries.now lanes.old l × NoneHasEnded l }
     requires entered { readers.old ≡ map objects_read lanes.old }
-    ensures had { (l : State) → AreThose code.now fuel content.now entries.now lanes.old l → NoneHasEnded l
+    ensures had { (l : State) → LanesStandFor code.now fuel content.now entries.now lanes.old l → NoneHasEnded l
         → IfOk result (HadTurn code.now fuel content.now entries.now units lane l lanes.new) }
     ensures entered { readers.new ≡ map objects_read lanes.new }
+    ensures idle { OnErr result (lane_at lanes.new lane ≡ None) }
+    ensures stay { lanes.new ≡ slice_set lanes.old lane (lane_at lanes.new lane) }
 {
     let turned = turn_entered(
         alloc, code, names, content, index, entries, lanes, readers, lane, fuel, units,
     );
     match turned {
-        Ok(told) => Ok(told),
+        Ok(outcome) => Ok(outcome),
         Err(Memory) => {
             lanes[lane] = None;
             readers.clear(lane);
@@ -221,7 +228,7 @@ pub fn turn_listed<I: Index>(
 }
 
 // The request of a lane is answered, and the lane is idle.
-fn answer_lane(lane: &mut Option<Busy>, entries: &mut [Entry])
+fn answer_lane(lane: &mut Option<Busy>, entries: &mut [BatchRequest])
     ensures idle { lane.new ≡ None }
     ensures answered { entries.new ≡ answered_in lane.old entries.old }
 {
@@ -233,7 +240,12 @@ fn answer_lane(lane: &mut Option<Busy>, entries: &mut [Entry])
 }
 
 // The same of one lane among all.
-fn answer_at(lanes: &mut [Option<Busy>], readers: &mut Readers, lane: usize, entries: &mut [Entry])
+fn answer_at(
+    lanes: &mut [Option<Busy>],
+    readers: &mut Readers,
+    lane: usize,
+    entries: &mut [BatchRequest],
+)
     requires lane { lane < length lanes.old }
     requires entered { readers.old ≡ map objects_read lanes.old }
     ensures lanes { lanes.new ≡ slice_set lanes.old lane None }
@@ -252,7 +264,7 @@ pub fn commit_lane(
     lanes: &mut [Option<Busy>],
     readers: &mut Readers,
     lane: usize,
-    entries: &mut [Entry],
+    entries: &mut [BatchRequest],
 )
     requires few { length before.now.handles ≤ most_handles }
     requires delta { IsDelta before.now delta.now }

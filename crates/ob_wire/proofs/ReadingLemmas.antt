@@ -24,13 +24,13 @@ use Rattle.ob_wire.specs.Reading.{only_keys, has_only, is_one, has_one, ref_in}
 use Rattle.ob_wire.specs.declared.request.Arg.{Arg}
 use Rattle.ob_wire.specs.declared.request.Arg.TheVariants as arg
 
-only_keys-members : (row : List (List ℕ)) (es : List (String Global × Value)) → list_all (λ key. list_any (bytes_eq (string_bytes key)) row) (map (λ e. e.0) es) ≡ only_keys row (members_view es)
-only_keys-members row [] = refl
-only_keys-members row (e ∷ es) = ap (λ (b : Bool). list_any (bytes_eq (string_bytes e.0)) row && b) (only_keys-members row es)
+only_keys-members : (allowed : List (List ℕ)) (es : List (String Global × Value)) → list_all (λ key. list_any (bytes_eq (string_bytes key)) allowed) (map (λ e. e.0) es) ≡ only_keys allowed (members_view es)
+only_keys-members allowed [] = refl
+only_keys-members allowed (e ∷ es) = ap (λ (b : Bool). list_any (bytes_eq (string_bytes e.0)) allowed && b) (only_keys-members allowed es)
 
 -- the keys of an object, by those of its map
-pub has_only-members : (row : List (List ℕ)) (value : Data) (es : List (String Global × Value)) → Some (members_view es) ≡ as_object value → list_all (λ key. list_any (bytes_eq (string_bytes key)) row) (map (λ e. e.0) es) ≡ has_only row value
-has_only-members row value es is = only_keys-members row es ∙ ap (λ (o : Option Members). elim o as (λ _. Bool) [ None ↦ false | Some members ↦ only_keys row members ]) is
+pub has_only-members : (allowed : List (List ℕ)) (value : Data) (es : List (String Global × Value)) → Some (members_view es) ≡ as_object value → list_all (λ key. list_any (bytes_eq (string_bytes key)) allowed) (map (λ e. e.0) es) ≡ has_only allowed value
+has_only-members allowed value es is = only_keys-members allowed es ∙ ap (λ (o : Option Members). elim o as (λ _. Bool) [ None ↦ false | Some members ↦ only_keys allowed members ]) is
 
 many : (n : ℕ) → (suc (suc n) == 1) ≡ false
 many n = grind (arith, nat_tests)

@@ -11,9 +11,9 @@ use Rattle.ob_base.specs.Optional.{◌>>=◌, where_true}
 use Rattle.ob_base.proofs.OptionalLemmas.{bind_some, where_some, both_true, by_cases}
 use Rattle.ob_base.specs.declared.permission.Mode.{Mode}
 use Rattle.ob_base.specs.declared.permission.Mode.TheVariants.{Owned, Shared, Unowned}
-use Rattle.ob_wire.specs.Requests.{keys_of, row_of, word_of, word_of_mode, HasOnly, LabelAt, LabelIfAt, whole, IdAt, arguments_of, AreArgs, ModeAt, HasParts, IsRequest, Asks}
+use Rattle.ob_wire.specs.Requests.{keys_of, allowed_keys, word_of, word_of_mode, HasOnly, LabelAt, LabelIfAt, whole, IdAt, arguments_of, AreArgs, ModeAt, HasParts, IsRequest, Asks}
 use Rattle.ob_wire.specs.Reading.{only_keys, has_only, found_if, text_at, label_at, label_if_at, from_zero, id_at, args_in, args_at, mode_named, mode_at, new_in, call_in, give_in, on_in, op_named, op_in, request_in}
-use Rattle.ob_wire.specs.declared.reading.Row.TheVariants as row
+use Rattle.ob_wire.specs.declared.reading.RequestKeys.TheVariants as allowed
 use Rattle.ob_wire.specs.declared.request.Arg.{Arg}
 use Rattle.ob_wire.specs.declared.request.Request.{Request}
 use Rattle.ob_wire.specs.declared.request.Op.{Op}
@@ -185,18 +185,18 @@ mode_at_again value mode h = rw h (mode_again mode)
 
 -- a value has the keys and parts of what is asked
 abbrev HasForm : Data → Op → Type 0
-HasForm value op = HasOnly (keys_of (row_of op)) value × HasParts value op
+HasForm value op = HasOnly (keys_of (allowed_keys op)) value × HasParts value op
 
 new_there : (value : Data) (op : Op) → new_in value ≡ Some op → HasForm value op × (word_of op ≡ codes "new")
 new_there value op e =
-    let a = found_some (has_only (keys_of row.New) value) (label_at (codes "contract") value >>= λ contract. args_at value >>= λ args. label_if_at (codes "into") value >>= λ into. Some (New contract args into)) op e in
+    let a = found_some (has_only (keys_of allowed.New) value) (label_at (codes "contract") value >>= λ contract. args_at value >>= λ args. label_if_at (codes "into") value >>= λ into. Some (New contract args into)) op e in
     let b = bind_some (label_at (codes "contract") value) (λ contract. args_at value >>= λ args. label_if_at (codes "into") value >>= λ into. Some (New contract args into)) op a.1 in
     let d = bind_some (args_at value) (λ args. label_if_at (codes "into") value >>= λ into. Some (New b.0 args into)) op b.2 in
     let f = bind_some (label_if_at (codes "into") value) (λ into. Some (New b.0 d.0 into)) op d.2 in
     let same : New b.0 d.0 f.0 ≡ op = cc in
     subst (λ o. HasForm value o × (word_of o ≡ codes "new")) same (
       (
-        only_there (keys_of row.New) value a.0,
+        only_there (keys_of allowed.New) value a.0,
         (label_there (codes "contract") value b.0 b.1, args_there (get (codes "args") value) d.0 d.1, label_if_there (codes "into") value f.0 f.1),
       ),
       refl,
@@ -204,7 +204,7 @@ new_there value op e =
 
 call_there : (value : Data) (op : Op) → call_in value ≡ Some op → HasForm value op × (word_of op ≡ codes "call")
 call_there value op e =
-    let a = found_some (has_only (keys_of row.Call) value) (label_at (codes "on") value >>= λ on. label_at (codes "tx") value >>= λ tx. args_at value >>= λ args. label_if_at (codes "into") value >>= λ into. Some (Call on tx args into)) op e in
+    let a = found_some (has_only (keys_of allowed.Call) value) (label_at (codes "on") value >>= λ on. label_at (codes "tx") value >>= λ tx. args_at value >>= λ args. label_if_at (codes "into") value >>= λ into. Some (Call on tx args into)) op e in
     let b = bind_some (label_at (codes "on") value) (λ on. label_at (codes "tx") value >>= λ tx. args_at value >>= λ args. label_if_at (codes "into") value >>= λ into. Some (Call on tx args into)) op a.1 in
     let d = bind_some (label_at (codes "tx") value) (λ tx. args_at value >>= λ args. label_if_at (codes "into") value >>= λ into. Some (Call b.0 tx args into)) op b.2 in
     let f = bind_some (args_at value) (λ args. label_if_at (codes "into") value >>= λ into. Some (Call b.0 d.0 args into)) op d.2 in
@@ -212,7 +212,7 @@ call_there value op e =
     let same : Call b.0 d.0 f.0 g.0 ≡ op = cc in
     subst (λ o. HasForm value o × (word_of o ≡ codes "call")) same (
       (
-        only_there (keys_of row.Call) value a.0,
+        only_there (keys_of allowed.Call) value a.0,
         (label_there (codes "on") value b.0 b.1, label_there (codes "tx") value d.0 d.1, args_there (get (codes "args") value) f.0 f.1, label_if_there (codes "into") value g.0 g.1),
       ),
       refl,
@@ -220,7 +220,7 @@ call_there value op e =
 
 give_there : (value : Data) (op : Op) → give_in value ≡ Some op → HasForm value op × (word_of op ≡ codes "give")
 give_there value op e =
-    let a = found_some (has_only (keys_of row.Give) value) (label_at (codes "on") value >>= λ on. label_at (codes "to") value >>= λ to. label_at (codes "into") value >>= λ into. mode_at value >>= λ mode. Some (Give on to into mode)) op e in
+    let a = found_some (has_only (keys_of allowed.Give) value) (label_at (codes "on") value >>= λ on. label_at (codes "to") value >>= λ to. label_at (codes "into") value >>= λ into. mode_at value >>= λ mode. Some (Give on to into mode)) op e in
     let b = bind_some (label_at (codes "on") value) (λ on. label_at (codes "to") value >>= λ to. label_at (codes "into") value >>= λ into. mode_at value >>= λ mode. Some (Give on to into mode)) op a.1 in
     let d = bind_some (label_at (codes "to") value) (λ to. label_at (codes "into") value >>= λ into. mode_at value >>= λ mode. Some (Give b.0 to into mode)) op b.2 in
     let f = bind_some (label_at (codes "into") value) (λ into. mode_at value >>= λ mode. Some (Give b.0 d.0 into mode)) op d.2 in
@@ -228,16 +228,16 @@ give_there value op e =
     let same : Give b.0 d.0 f.0 g.0 ≡ op = cc in
     subst (λ o. HasForm value o × (word_of o ≡ codes "give")) same (
       (
-        only_there (keys_of row.Give) value a.0,
+        only_there (keys_of allowed.Give) value a.0,
         (label_there (codes "on") value b.0 b.1, label_there (codes "to") value d.0 d.1, label_there (codes "into") value f.0 f.1, mode_at_there value g.0 g.1),
       ),
       refl,
     )
 
-on_there : (value : Data) (on : List ℕ) → on_in value ≡ Some on → HasOnly (keys_of row.Handle) value × LabelAt (codes "on") value on
+on_there : (value : Data) (on : List ℕ) → on_in value ≡ Some on → HasOnly (keys_of allowed.Handle) value × LabelAt (codes "on") value on
 on_there value on e =
-    let a = found_some (has_only (keys_of row.Handle) value) (label_at (codes "on") value) on e in
-    (only_there (keys_of row.Handle) value a.0, label_there (codes "on") value on a.1)
+    let a = found_some (has_only (keys_of allowed.Handle) value) (label_at (codes "on") value) on e in
+    (only_there (keys_of allowed.Handle) value a.0, label_there (codes "on") value on a.1)
 
 disown_there : (value : Data) (op : Op) → (on_in value >>= λ on. Some (Disown on)) ≡ Some op → HasForm value op × (word_of op ≡ codes "disown")
 disown_there value op e =
@@ -303,16 +303,16 @@ request_there value request e =
       parts = op.0.1;
     })
 
-op_again : (value : Data) (op : Op) → HasOnly (keys_of (row_of op)) value → HasParts value op → op_named (word_of op) value ≡ Some op
+op_again : (value : Data) (op : Op) → HasOnly (keys_of (allowed_keys op)) value → HasParts value op → op_named (word_of op) value ≡ Some op
 op_again value (New contract args into) keys h =
-    rw (only_again (keys_of row.New) value keys, label_again (codes "contract") value contract h.0, args_again (get (codes "args") value) args h.1, label_if_again (codes "into") value into h.2) refl
+    rw (only_again (keys_of allowed.New) value keys, label_again (codes "contract") value contract h.0, args_again (get (codes "args") value) args h.1, label_if_again (codes "into") value into h.2) refl
 op_again value (Call on tx args into) keys h =
-    rw (only_again (keys_of row.Call) value keys, label_again (codes "on") value on h.0, label_again (codes "tx") value tx h.1, args_again (get (codes "args") value) args h.2, label_if_again (codes "into") value into h.3) refl
+    rw (only_again (keys_of allowed.Call) value keys, label_again (codes "on") value on h.0, label_again (codes "tx") value tx h.1, args_again (get (codes "args") value) args h.2, label_if_again (codes "into") value into h.3) refl
 op_again value (Give on to into mode) keys h =
-    rw (only_again (keys_of row.Give) value keys, label_again (codes "on") value on h.0, label_again (codes "to") value to h.1, label_again (codes "into") value into h.2, mode_at_again value mode h.3) refl
-op_again value (Disown on) keys h = rw (only_again (keys_of row.Handle) value keys, label_again (codes "on") value on h) refl
-op_again value (See on) keys h = rw (only_again (keys_of row.Handle) value keys, label_again (codes "on") value on h) refl
-op_again value (Owner on) keys h = rw (only_again (keys_of row.Handle) value keys, label_again (codes "on") value on h) refl
+    rw (only_again (keys_of allowed.Give) value keys, label_again (codes "on") value on h.0, label_again (codes "to") value to h.1, label_again (codes "into") value into h.2, mode_at_again value mode h.3) refl
+op_again value (Disown on) keys h = rw (only_again (keys_of allowed.Handle) value keys, label_again (codes "on") value on h) refl
+op_again value (See on) keys h = rw (only_again (keys_of allowed.Handle) value keys, label_again (codes "on") value on h) refl
+op_again value (Owner on) keys h = rw (only_again (keys_of allowed.Handle) value keys, label_again (codes "on") value on h) refl
 
 -- what is asked is worked out
 pub request_again : (value : Data) (request : Request) → IsRequest value request → request_in value ≡ Some request

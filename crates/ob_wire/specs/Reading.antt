@@ -10,7 +10,7 @@ use Rattle.ob_base.specs.Optional.{◌>>=◌, where_true}
 use Rattle.ob_base.specs.declared.permission.Mode.{Mode}
 use Rattle.ob_base.specs.declared.permission.Mode.TheVariants.{Owned, Shared, Unowned}
 use Rattle.ob_wire.specs.Requests.{keys_of, whole, arguments_of, is_batch_size, IsNoJson, AsksNothing, AsksIncoming, AsksWrongCount}
-use Rattle.ob_wire.specs.declared.reading.Row.TheVariants as row
+use Rattle.ob_wire.specs.declared.reading.RequestKeys.TheVariants as allowed
 use Rattle.ob_wire.specs.declared.request.Arg.{Arg}
 use Rattle.ob_wire.specs.declared.request.Request.{Request}
 use Rattle.ob_wire.specs.declared.request.Incoming.{Incoming}
@@ -89,27 +89,27 @@ mode_at value = text_at (codes "as") value >>= mode_named
 -- the `new` that a value asks
 abbrev pub new_in : Data → Option Op
 new_in value =
-    found_if (has_only (keys_of row.New) value)
+    found_if (has_only (keys_of allowed.New) value)
     (label_at (codes "contract") value >>= λ contract. args_at value >>= λ args. label_if_at (codes "into") value >>= λ into.
     Some (New contract args into))
 
 -- the `call` that a value asks
 abbrev pub call_in : Data → Option Op
 call_in value =
-    found_if (has_only (keys_of row.Call) value)
+    found_if (has_only (keys_of allowed.Call) value)
     (label_at (codes "on") value >>= λ on. label_at (codes "tx") value >>= λ tx. args_at value >>= λ args.
     label_if_at (codes "into") value >>= λ into. Some (Call on tx args into))
 
 -- the `give` that a value asks
 abbrev pub give_in : Data → Option Op
 give_in value =
-    found_if (has_only (keys_of row.Give) value)
+    found_if (has_only (keys_of allowed.Give) value)
     (label_at (codes "on") value >>= λ on. label_at (codes "to") value >>= λ to. label_at (codes "into") value >>= λ into.
     mode_at value >>= λ mode. Some (Give on to into mode))
 
 -- the handle of a value that has nothing else to say
 abbrev pub on_in : Data → Option (List ℕ)
-on_in value = found_if (has_only (keys_of row.Handle) value) (label_at (codes "on") value)
+on_in value = found_if (has_only (keys_of allowed.Handle) value) (label_at (codes "on") value)
 
 -- what a value of this `op` asks
 abbrev pub op_named : List ℕ → Data → Option Op

@@ -8,8 +8,8 @@ use Rattle.serde_json.specs.Read.{read}
 use Rattle.ob_base.specs.Names.{is_label, is_text}
 use Rattle.ob_base.specs.declared.permission.Mode.{Mode}
 use Rattle.ob_base.specs.declared.permission.Mode.TheVariants.{Owned, Shared, Unowned}
-use Rattle.ob_wire.specs.declared.reading.Row.{Row}
-use Rattle.ob_wire.specs.declared.reading.Row.TheVariants as row
+use Rattle.ob_wire.specs.declared.reading.RequestKeys.{RequestKeys}
+use Rattle.ob_wire.specs.declared.reading.RequestKeys.TheVariants as allowed
 use Rattle.ob_wire.specs.declared.request.Arg.{Arg}
 use Rattle.ob_wire.specs.declared.request.Arg.TheVariants as arg
 use Rattle.ob_wire.specs.declared.request.Request.{Request}
@@ -18,21 +18,21 @@ use Rattle.ob_wire.specs.declared.request.Incoming.TheVariants.{One, Batch}
 use Rattle.ob_wire.specs.declared.request.Op.{Op}
 use Rattle.ob_wire.specs.declared.request.Op.TheVariants.{New, Call, Disown, Give, See, Owner}
 
--- the keys that a request of a row may have, in the order of their bytes
-abbrev pub keys_of : Row → List (List ℕ)
-keys_of row.New = codes "args" ∷ codes "contract" ∷ codes "id" ∷ codes "into" ∷ codes "op" ∷ codes "who" ∷ []
-keys_of row.Call = codes "args" ∷ codes "id" ∷ codes "into" ∷ codes "on" ∷ codes "op" ∷ codes "tx" ∷ codes "who" ∷ []
-keys_of row.Give = codes "as" ∷ codes "id" ∷ codes "into" ∷ codes "on" ∷ codes "op" ∷ codes "to" ∷ codes "who" ∷ []
-keys_of row.Handle = codes "id" ∷ codes "on" ∷ codes "op" ∷ codes "who" ∷ []
+-- the keys that a request may have, in the order of their bytes
+abbrev pub keys_of : RequestKeys → List (List ℕ)
+keys_of allowed.New = codes "args" ∷ codes "contract" ∷ codes "id" ∷ codes "into" ∷ codes "op" ∷ codes "who" ∷ []
+keys_of allowed.Call = codes "args" ∷ codes "id" ∷ codes "into" ∷ codes "on" ∷ codes "op" ∷ codes "tx" ∷ codes "who" ∷ []
+keys_of allowed.Give = codes "as" ∷ codes "id" ∷ codes "into" ∷ codes "on" ∷ codes "op" ∷ codes "to" ∷ codes "who" ∷ []
+keys_of allowed.Handle = codes "id" ∷ codes "on" ∷ codes "op" ∷ codes "who" ∷ []
 
--- the row of what is asked
-abbrev pub row_of : Op → Row
-row_of (New contract args into) = row.New
-row_of (Call on tx args into) = row.Call
-row_of (Give on to into mode) = row.Give
-row_of (Disown on) = row.Handle
-row_of (See on) = row.Handle
-row_of (Owner on) = row.Handle
+-- which keys a request may have, by what it asks
+abbrev pub allowed_keys : Op → RequestKeys
+allowed_keys (New contract args into) = allowed.New
+allowed_keys (Call on tx args into) = allowed.Call
+allowed_keys (Give on to into mode) = allowed.Give
+allowed_keys (Disown on) = allowed.Handle
+allowed_keys (See on) = allowed.Handle
+allowed_keys (Owner on) = allowed.Handle
 
 -- the word for what is asked
 abbrev pub word_of : Op → List ℕ
@@ -133,7 +133,7 @@ HasParts value (Owner on) = LabelAt (codes "on") value on
 
 -- A value asks this.
 pub record IsRequest (value : Data) (request : Request) : Type 0 where
-  pub keys : HasOnly (keys_of (row_of request.op)) value
+  pub keys : HasOnly (keys_of (allowed_keys request.op)) value
   pub id : IdAt value request.id
   pub who : LabelAt (codes "who") value request.who
   pub op : get (codes "op") value ≡ Some (string (word_of request.op))
@@ -183,10 +183,6 @@ Asks line request = (value : Data) × IsJson line value × IsRequest value reque
 -- The same, of a request or a batch.
 abbrev pub AsksIncoming : List ℕ → Incoming → Type 0
 AsksIncoming line incoming = (value : Data) × IsJson line value × IsIncoming value incoming
-
--- A line is the JSON text of a batch of these requests.
-abbrev pub AsksBatch : List ℕ → List Request → Type 0
-AsksBatch line requests = AsksIncoming line (Batch requests)
 
 -- A line is no JSON text.
 abbrev pub IsNoJson : List ℕ → Type 0

@@ -14,12 +14,12 @@ use ob_base::{Items, Label, Memory, Mode, NameError, Text};
 use serde_json::{Map, Number, Value};
 use std::alloc::{AllocError, Global};
 
-/// Why a line has no request.
+/// Why a line asks nothing, or, where replies are read, is none.
 #[derive(Clone, Copy)]
 pub enum WireError {
     /// It is no JSON.
     Json,
-    /// It is JSON, but neither a request nor an array of requests.
+    /// It is JSON, but neither a request nor an array of requests; or, where a reply is read, no reply.
     Shape,
     /// It is an array of none or of more than `MOST_REQUESTS` requests.
     BatchSize,
@@ -63,42 +63,42 @@ impl From<NameError> for WireError {
     }
 }
 
-// The forms of a request, by the keys that it may have.
+// Which keys a request may have, by what it asks.
 #[derive(Clone, Copy)]
-enum Row {
-    // A `new`.
+enum RequestKeys {
+    // Those of a `new`.
     New,
-    // A `call`.
+    // Those of a `call`.
     Call,
-    // A `give`.
+    // Those of a `give`.
     Give,
-    // A request that names a handle and has nothing else to say.
+    // Those of a request that names a handle and has nothing else to say.
     Handle,
 }
 
-fn is_key(row: Row, key: &str) -> bool
-    ensures { result ≡ list_any (bytes_eq key.now) (keys_of row) }
+fn is_key(allowed: RequestKeys, key: &str) -> bool
+    ensures { result ≡ list_any (bytes_eq key.now) (keys_of allowed) }
 {
-    match row {
-        Row::New => matches!(key, "args" | "contract" | "id" | "into" | "op" | "who"),
-        Row::Call => matches!(key, "args" | "id" | "into" | "on" | "op" | "tx" | "who"),
-        Row::Give => matches!(key, "as" | "id" | "into" | "on" | "op" | "to" | "who"),
-        Row::Handle => matches!(key, "id" | "on" | "op" | "who"),
+    match allowed {
+        RequestKeys::New => matches!(key, "args" | "contract" | "id" | "into" | "op" | "who"),
+        RequestKeys::Call => matches!(key, "args" | "id" | "into" | "on" | "op" | "tx" | "who"),
+        RequestKeys::Give => matches!(key, "as" | "id" | "into" | "on" | "op" | "to" | "who"),
+        RequestKeys::Handle => matches!(key, "id" | "on" | "op" | "who"),
     }
 }
 
-fn are_keys(row: Row, members: &Map<String, Value>) -> bool
-    ensures { result ≡ list_all (λ key. list_any (bytes_eq (string_bytes key)) (keys_of row)) (keys members.now) }
+fn are_keys(allowed: RequestKeys, members: &Map<String, Value>) -> bool
+    ensures { result ≡ list_all (λ key. list_any (bytes_eq (string_bytes key)) (keys_of allowed)) (keys members.now) }
 {
-    members.keys().all(|key| is_key(row, key.as_str()))
+    members.keys().all(|key| is_key(allowed, key.as_str()))
 }
 
-// Whether the value is an object with no keys but those of the row.
-fn has_only(row: Row, value: &Value) -> bool
-    ensures { result ≡ has_only (keys_of row) (view value.now) }
+// Whether the value is an object with no keys but the allowed ones.
+fn has_only(allowed: RequestKeys, value: &Value) -> bool
+    ensures { result ≡ has_only (keys_of allowed) (view value.now) }
 {
     match value.as_object() {
-        Some(members) => are_keys(row, members),
+        Some(members) => are_keys(allowed, members),
         None => false,
     }
 }
@@ -246,7 +246,7 @@ fn mode_at(value: &Value) -> Result<Mode, WireError>
 fn new_in(alloc: Global, value: &Value) -> Result<Op, WireError>
     ensures { Answers result (new_in (view value.now)) }
 {
-    if !has_only(Row::New, value) {
+    if !has_only(RequestKeys::New, value) {
         return Err(WireError::Shape);
     }
     let contract = label_at(alloc, value, "contract")?;
@@ -262,7 +262,7 @@ fn new_in(alloc: Global, value: &Value) -> Result<Op, WireError>
 fn call_in(alloc: Global, value: &Value) -> Result<Op, WireError>
     ensures { Answers result (call_in (view value.now)) }
 {
-    if !has_only(Row::Call, value) {
+    if !has_only(RequestKeys::Call, value) {
         return Err(WireError::Shape);
     }
     let on = label_at(alloc, value, "on")?;
@@ -275,7 +275,7 @@ fn call_in(alloc: Global, value: &Value) -> Result<Op, WireError>
 fn give_in(alloc: Global, value: &Value) -> Result<Op, WireError>
     ensures { Answers result (give_in (view value.now)) }
 {
-    if !has_only(Row::Give, value) {
+    if !has_only(RequestKeys::Give, value) {
         return Err(WireError::Shape);
     }
     let on = label_at(alloc, value, "on")?;
@@ -289,7 +289,7 @@ fn give_in(alloc: Global, value: &Value) -> Result<Op, WireError>
 fn on_in(alloc: Global, value: &Value) -> Result<Label, WireError>
     ensures { Answers result (on_in (view value.now)) }
 {
-    if !has_only(Row::Handle, value) {
+    if !has_only(RequestKeys::Handle, value) {
         return Err(WireError::Shape);
     }
     label_at(alloc, value, "on")
@@ -315,6 +315,7 @@ fn op_in(alloc: Global, value: &Value) -> Result<Op, WireError>
     }
 }
 
+/// The request that a JSON value asks.
 pub fn request_in(alloc: Global, value: &Value) -> Result<Request, WireError>
     ensures { Answers result (request_in (view value.now)) }
 {

@@ -7,10 +7,10 @@ use ob_base::{Duplicate, Items, Label, Memory, ObjectId, both, copy_items, copy_
 use ob_heap::RcStr;
 use std::alloc::Global;
 
-/// The answer to one line.
+/// The answer to a request, or to a line that asks none.
 #[derive(Drop)]
 pub struct Reply {
-    /// The request's number, where the line is a request.
+    /// The request's number; `None` where the line asks no request.
     pub id: Option<i64>,
     /// How it went: what was given, or why nothing was.
     pub answer: Answer,
@@ -103,7 +103,8 @@ pub enum Cause {
     Fuel,
     /// There are as many objects as there may be.
     Full,
-    /// What was changed needs so many bytes of the store, which has only so many.
+    /// What was changed has no room in the store: with its record the area would need so many bytes, and has only so many, and the
+    /// store can't move into the other one.
     Room(u64, u64),
 }
 

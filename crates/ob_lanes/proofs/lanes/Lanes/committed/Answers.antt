@@ -3,7 +3,7 @@ use Rattle.std.specs.Vec.{with_items}
 use Rattle.std.proofs.lemmas.List.{with_items_is, places}
 use Rattle.ob_lanes_laws.specs.Turns.{next_lane}
 use Rattle.ob_lanes.specs.Committing.{lane_at, answered_in}
-use Rattle.ob_lanes.specs.declared.entry.Entry.{Entry}
+use Rattle.ob_lanes.specs.declared.batch.BatchRequest.{BatchRequest}
 use Rattle.ob_lanes.proofs.Committing.{answered_kept}
 use Rattle.ob_lanes.proofs.Commits.{commits_so}
 use Rattle.ob_lanes.proofs.lanes.Lanes.committed.Goals as goal
@@ -24,4 +24,4 @@ returns-clause-requests c =
     let old = c.args.self.now in
     let es : c.deref_mut.result.now ≡ old.entries.items = search rules in
     let entries : (with_items old.entries c.commit.new.entries).items ≡ c.commit.new.entries = with_items_is old.entries c.commit.new.entries (search (rules, places)) in
-    ap (map (λ (e : Entry). e.request)) (entries ∙ c.commit.ensures.entries ∙ ap (answered_in (lane_at old.lanes.items old.next)) es) ∙ answered_kept (lane_at old.lanes.items old.next) old.entries.items
+    ap (map (λ (e : BatchRequest). e.request)) (entries ∙ c.commit.ensures.entries ∙ ap (answered_in (lane_at old.lanes.items old.next)) es) ∙ answered_kept (lane_at old.lanes.items old.next) old.entries.items

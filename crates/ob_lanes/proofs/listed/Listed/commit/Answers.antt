@@ -4,7 +4,7 @@ use Rattle.std.specs.Vec.{with_items}
 use Rattle.std.proofs.lemmas.List.{with_items_is, places}
 use Rattle.ob_lanes.specs.Committing.{lanes_after}
 use Rattle.ob_lanes.specs.Readers.{objects_read}
-use Rattle.ob_lanes.specs.declared.entry.Busy.{Busy}
+use Rattle.ob_lanes.specs.declared.batch.Busy.{Busy}
 use Rattle.ob_lanes.proofs.listed.Listed.commit.Goals as goal
 
 pub invariant_of-self : goal.invariant_of-self

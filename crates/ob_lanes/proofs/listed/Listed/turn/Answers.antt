@@ -1,11 +1,12 @@
 use Rattle.std.proofs.Common.{◌≡◌, ◌∙◌, Option, map, sym, ap, subst, rules}
-use Rattle.std.specs.Prelude.{IfOk}
+use Rattle.std.specs.Prelude.{slice_set, None, IfOk, OnErr}
 use Rattle.std.specs.Global.{Vec}
 use Rattle.std.specs.Vec.{with_items}
 use Rattle.std.proofs.lemmas.List.{with_items_is, places}
+use Rattle.ob_lanes.specs.Committing.{lane_at}
 use Rattle.ob_lanes.specs.Readers.{objects_read}
-use Rattle.ob_lanes.specs.Standing.{AreThose, HadTurn}
-use Rattle.ob_lanes.specs.declared.entry.Busy.{Busy}
+use Rattle.ob_lanes.specs.Standing.{LanesStandFor, HadTurn}
+use Rattle.ob_lanes.specs.declared.batch.Busy.{Busy}
 use Rattle.ob_lanes.proofs.listed.Listed.turn.Goals as goal
 
 pub invariant_of-self : goal.invariant_of-self
@@ -21,4 +22,20 @@ returns-clause-had g c = λ l those going.
     let same : (with_items c.self.inside.lanes c.turn_listed.new.lanes).items ≡ c.turn_listed.new.lanes = with_items_is c.self.inside.lanes c.turn_listed.new.lanes (search (rules, places)) in
     let seen : c.deref_mut.result.now ≡ c.args.self.now.items = c.deref_mut.ensures.value ∙ ap (λ (v : Vec (Option Busy)). v.items) c.self.view_is in
     subst (λ x. IfOk c.turn_listed.result (HadTurn image c.args.fuel base entries c.args.units c.args.lane l x)) (sym same)
-    (c.turn_listed.ensures.had l (subst (λ x. AreThose image c.args.fuel base entries x l) (sym seen) those) going)
+    (c.turn_listed.ensures.had l (subst (λ x. LanesStandFor image c.args.fuel base entries x l) (sym seen) those) going)
+
+pub returns-clause-idle : goal.returns-clause-idle
+returns-clause-idle g c =
+    let same : (with_items c.self.inside.lanes c.turn_listed.new.lanes).items ≡ c.turn_listed.new.lanes = with_items_is c.self.inside.lanes c.turn_listed.new.lanes (search (rules, places)) in
+    subst (λ ls. OnErr c.turn_listed.result (lane_at ls c.args.lane ≡ None)) (sym same) c.turn_listed.ensures.idle
+
+pub returns-clause-stay : goal.returns-clause-stay
+returns-clause-stay g c =
+    let k = c.args.lane in
+    let turned = c.turn_listed.new.lanes in
+    let same : (with_items c.self.inside.lanes turned).items ≡ turned = with_items_is c.self.inside.lanes turned (search (rules, places)) in
+    let seen : c.deref_mut.result.now ≡ c.args.self.now.items = c.deref_mut.ensures.value ∙ ap (λ (v : Vec (Option Busy)). v.items) c.self.view_is in
+    same
+    ∙ c.turn_listed.ensures.stay
+    ∙ ap (λ ls. slice_set ls k (lane_at turned k)) seen
+    ∙ ap (λ ls. slice_set c.args.self.now.items k (lane_at ls k)) (sym same)

@@ -1,10 +1,10 @@
 //! What lanes keep of a batch and of a request that is under way.
-use crate::going::Going;
+use crate::lane_run::LaneRun;
 use ob_wire::Request;
 
 /// A request of the batch.
 #[derive(Drop)]
-pub struct Entry {
+pub struct BatchRequest {
     /// The request.
     pub request: Request,
     /// Whether it is answered.
@@ -17,5 +17,5 @@ pub struct Busy {
     /// The number of its request in the batch.
     pub number: usize,
     /// Its run, once it was sliced since it was opened.
-    pub run: Option<Going>,
+    pub run: Option<LaneRun>,
 }
