@@ -61,7 +61,7 @@ words() {
         !index($0, store) || /^(statx|newfstatat|close)\(/ { next }
         /^openat\(.*O_RDWR\|O_CREAT.*, 0600\)/ { tell("open"); next }
         /^flock\(.*, LOCK_EX\|LOCK_NB\)/ { tell("lock"); next }
-        /^fsync\(/ { tell("sync"); next }
+        /^fdatasync\(/ { tell("sync"); next }
         /^pwrite64\(/ { tell("write"); next }
         /^pread64\(/ { tell("read"); next }
         { tell("other") }
@@ -143,7 +143,7 @@ serve new <lines
 want 'a new store' 0 "$served" 7
 want_told 'a new store' new 'a new store, since there was no such file, or an empty one'
 cp trace whole
-for number in $(grep -nE '^(openat\(.*/new/store>|(flock|fsync|pwrite64)\(|write\(1<)' whole | cut -d: -f1); do
+for number in $(grep -nE '^(openat\(.*/new/store>|(flock|fsync|fdatasync|pwrite64)\(|write\(1<)' whole | cut -d: -f1); do
     if [ "$(sed "${number}d" whole | words "$room/new/store")" = "$served" ]; then
         tell_wrong 'a call that is left out' 'other words' "$(sed -n "${number}p" whole)"
     fi
@@ -165,11 +165,11 @@ read -r _ <&"${first[0]}"
 serve new <lines
 want 'a second run' 5 'open lock!' 0
 want_told 'a second run' new "it couldn't be locked"
-want_help 'a second run' 'another process has it: a run that serves it, or `flock`. Let that one end; two never serve one store.'
+want_help 'a second run' 'another process has it: a run that serves or audits it, or `flock`. Let that one end; two never have one store.'
 exec {first[1]}>&-
 wait
 
-serve signals -e inject=flock,fsync,pwrite64,pread64:error=EINTR:when=1+2 <lines
+serve signals -e inject=flock,fsync,fdatasync,pwrite64,pread64:error=EINTR:when=1+2 <lines
 want 'signals' 0 "$served" 7
 serve short -e inject=pwrite64:retval=1:when=4 <lines
 want 'a short write' 0 "${served/$stored/write $stored}" 7
@@ -180,15 +180,15 @@ fi
 broken='Input/output error (os error 5)'
 forgets='Then let the system forget what it keeps of the file in memory, before the next run'
 want_fault 'no right' openat:error=EACCES:when=1 '' 0 "it couldn't be opened: Permission denied (os error 13)"
-want_help 'no right' 'see whose run this is, and which rights it has'
+want_help 'no right' 'the user of this run lacks a right'
 want_fault 'a file system that is read only' openat:error=EROFS:when=1 '' 0 "it couldn't be opened: Read-only file system (os error 30)"
 want_help 'a file system that is read only' 'its file system can only be read: mount it so that it can be written'
 want_fault 'a name that is too long' openat:error=ENAMETOOLONG:when=1 '' 0 "it couldn't be opened: File name too long (os error 36)"
 want_help 'a name that is too long' 'see how the name is written.'
 want_fault 'a folder that is not synced' fsync:error=EIO:when=1 'open lock folder!' 0 "its folder couldn't be synced: $broken"
-want_fault 'the first sync of a line' fsync:error=EIO:when=6 "$begun write sync!" 0 "it couldn't be synced: $broken"
+want_fault 'the first sync of a line' fdatasync:error=EIO:when=5 "$begun write sync!" 0 "it couldn't be synced: $broken"
 want_help 'the first sync of a line' "look into the log of the system, as by \`dmesg\`: the disk may be broken. $forgets"
-want_fault 'the second sync of a line' fsync:error=EIO:when=9 "$begun $stored reply write sync write sync!" 2 "it couldn't be synced: $broken"
+want_fault 'the second sync of a line' fdatasync:error=EIO:when=8 "$begun $stored reply write sync write sync!" 2 "it couldn't be synced: $broken"
 want_fault 'a write without room' pwrite64:error=ENOSPC:when=5 "$begun write sync write!" 0 \
     "it couldn't be written: No space left on device (os error 28)"
 want_help 'a write without room' "the disk is full: make room on its file system. $forgets"
@@ -202,7 +202,7 @@ want_fault 'a write of nothing' pwrite64:retval=0:when=5 "$begun write sync writ
 serve new -e inject=pread64:retval=0:when=1 <lines
 want 'a read that ends early' 5 "$taken read" 0
 want_told 'a read that ends early' new "it couldn't be read: failed to fill whole buffer"
-want_help 'a read that ends early' "the file became shorter while it was served: find out which process did that. $forgets"
+want_help 'a read that ends early' "the file became shorter while this run had it: find out which process did that. $forgets"
 
 mkdir refused
 echo 'no store' >refused/store

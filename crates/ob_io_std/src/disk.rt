@@ -116,10 +116,10 @@ fn write(file: &Option<fs::File>, at: u64, bytes: &[u8]) -> io::Result<()> {
     }
 }
 
-// Brings the bytes and the length to the disk for good.
+// Brings the bytes and the length to the disk for good. The file's times needn't come with them.
 fn sync(file: &Option<fs::File>) -> io::Result<()> {
     match file {
-        Some(file) => file.sync_all(),
+        Some(file) => file.sync_data(),
         None => Err(lacking()),
     }
 }

@@ -37,17 +37,15 @@ pub fn header_of(alloc: Global, serial: i64, image: &[u8]) -> Result<Vec<u8>, Me
     Ok(bytes)
 }
 
-/// The header of an area, an open gate, and four bytes for the number of the bytes of the payload that is to follow. They have room
-/// for so many in all, so that they needn't be copied as they grow.
-pub fn front_of(alloc: Global, serial: i64, image: &[u8], room: usize) -> Result<Vec<u8>, Memory>
+/// Puts the header of an area, an open gate, and four bytes for the number of the bytes of the payload that is to follow.
+pub fn put_front(out: &mut Vec<u8>, serial: i64, image: &[u8]) -> Result<(), Memory>
     requires { length image.now < 2 ^ 32 }
-    ensures { IfOk result (λ bytes. bytes.items ≡ header.bytes (serial, image.now) ++ 1 ∷ u32_bytes 0) }
+    ensures { OnOk result (out.new.items ≡ out.old.items ++ (header.bytes (serial, image.now) ++ 1 ∷ u32_bytes 0)) }
 {
-    let mut bytes = Vec::with_capacity(alloc, room)?;
-    put_header(&mut bytes, serial, image)?;
-    bytes.push(1)?;
-    put_u32(&mut bytes, 0)?;
-    Ok(bytes)
+    put_header(out, serial, image)?;
+    out.push(1)?;
+    put_u32(out, 0)?;
+    Ok(())
 }
 
 /// Whether what is on a disk from an offset on begins with a closed gate.

@@ -3,7 +3,7 @@
 /// Why no journal was found or begun.
 #[derive(Clone, Copy, Debug)]
 pub enum JournalError {
-    /// The area is open and has no header.
+    /// One of the two areas is open and has no header.
     NotStore,
     /// Behind the open gate at this offset stands no record.
     Damaged(u64),
@@ -31,7 +31,7 @@ pub struct DiskFault;
 /// Why an area says nothing.
 #[derive(Clone, Copy)]
 pub enum AreaFault {
-    /// It is open and has no header.
+    /// It isn't open, or has no header.
     NotStore,
     /// Behind the open gate at this offset stands no record.
     Damaged(u64),

@@ -27,7 +27,7 @@ pub fn measure<D: Disk>(disk: &mut D) -> Result<u64, Failed>
     Ok(count)
 }
 
-/// So many zero bytes.
+/// So many bytes, which a read then fills.
 pub fn zeros(alloc: Global, count: usize) -> Result<Vec<u8>, Memory>
     ensures { IfOk result (λ bytes. length bytes.items ≡ count) }
 {

@@ -3,18 +3,20 @@ ghost use Rattle.std.specs.Prelude.{◌≡◌, ◌+◌, ◌<◌, ◌≤◌, ◌^
 ghost use Rattle.ob_journal_spec.specs.Lasting.{last_serial};
 
 use crate::appending::{close_record, put_record, record_of};
-use crate::beginning::{front_of, header_of, open_first, put_area};
+use crate::beginning::{header_of, open_first, put_area, put_front};
 use crate::error::{AreaFault, BuildError, DiskFault, JournalError, ReadFault};
 use crate::finding::{look_at_both, measure, read_area};
 use crate::heads::Current;
 use crate::place::AreaPlace;
 use crate::recorded::Recorded;
 use crate::records::{copied, survey_area};
+use crate::spare::Spare;
 use ob_base::Memory;
 use ob_disk::Disk;
 use std::alloc::Global;
 
-/// Where the records of a store stand on a disk: in which of two areas of one size, and how far. It keeps no payload.
+/// Where the records of a store stand on a disk: in which of two areas of one size, and how far. It keeps no payload, and up to 2 MiB of
+/// memory for the next move.
 #[derive(Drop)]
 pub struct Journal {
     area: u64,
@@ -24,6 +26,7 @@ pub struct Journal {
     gate: u64,
     // Whether the other area begins with a closed gate. A write over that might open it before unknown bytes.
     other_closed: bool,
+    spare: Spare,
     ghost small: { area ≤ 2 ^ 31 },
     ghost within: { gate < area },
     ghost pictured: { 17 + length image.items < area },
@@ -120,6 +123,7 @@ impl Journal {
                     image: read.image,
                     gate: read.gate as u64,
                     other_closed,
+                    spare: Spare::new(alloc),
                 };
                 Ok(Found::Current(journal, recorded))
             }
@@ -197,6 +201,7 @@ impl Journal {
             image: kept,
             gate: count + 17,
             other_closed,
+            spare: Spare::new(alloc),
         })
     }
 
@@ -229,6 +234,11 @@ impl Journal {
         self.place.start(self.area) + 17 + self.image.len() as u64
     }
 
+    /// Keeps the memory of records that aren't read any more, for the next move.
+    pub fn keep_memory(&self, recorded: Recorded) {
+        self.spare.keep(recorded.bytes);
+    }
+
     /// Builds the record of a payload. `Room` where it doesn't fit behind the others.
     pub fn build(&self, alloc: Global, payload: &[u8]) -> Result<Built, BuildError>
         ensures { Builds self.now payload.now result }
@@ -249,7 +259,9 @@ impl Journal {
         ensures { IfOk result (λ draft. IsFront self.now draft.bytes.items) }
     {
         let serial = next_serial(self.serial);
-        let bytes = front_of(alloc, serial, self.image.as_slice(), self.area as usize)?;
+        let mut bytes = self.spare.take(alloc);
+        bytes.reserve(self.area as usize)?;
+        put_front(&mut bytes, serial, self.image.as_slice())?;
         Ok(AreaDraft { bytes })
     }
 
@@ -262,6 +274,7 @@ impl Journal {
         let mut bytes = draft.bytes;
         let need = bytes.len() as u64 + 2;
         if need > self.area || self.serial == i64::MAX {
+            self.spare.keep(bytes);
             return Err(BuildError::Room(need, self.area));
         }
         let Ok(()) = close_record(&mut bytes, self.image.len() + 17) else {
@@ -333,13 +346,15 @@ impl Journal {
     {
         let place = self.place.other();
         let start = place.start(self.area);
-        let Ok(()) = put_area(disk, start, self.other_closed, built.bytes.as_slice()) else {
+        let BuiltArea { bytes } = built;
+        let Ok(()) = put_area(disk, start, self.other_closed, bytes.as_slice()) else {
             return Err(DiskFault);
         };
         self.place = place;
         self.serial += 1;
-        self.gate = built.bytes.len() as u64;
+        self.gate = bytes.len() as u64;
         self.other_closed = false;
+        self.spare.keep(bytes);
         Ok(())
     }
 }

@@ -11,6 +11,7 @@ mod parts;
 mod place;
 mod recorded;
 mod records;
+mod spare;
 
 pub use error::{BuildError, DiskFault, JournalError};
 pub use journal::{AreaDraft, Built, BuiltArea, Found, Journal};

@@ -4,7 +4,7 @@ ghost use Rattle.std.specs.Prelude.{◌≤◌, ◌^◌, vec_len};
 /// The bytes of an area as they were read, with its records among them.
 #[derive(Drop)]
 pub struct Recorded {
-    bytes: Vec<u8>,
+    pub(crate) bytes: Vec<u8>,
     start: usize,
     end: usize,
     ghost ordered: { start ≤ end },

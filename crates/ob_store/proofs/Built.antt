@@ -14,7 +14,7 @@ use Rattle.ob_journal.specs.declared.journal.BuiltArea.{BuiltArea}
 use Rattle.ob_store.specs.Preparing.{IsRecordIn, BuildsMove}
 use Rattle.ob_store.specs.Committing.{HoldsIn, StandsIn}
 use Rattle.ob_store.specs.Writing.{IsRecordOf, StandsWithOrWithout}
-use Rattle.ob_store.specs.declared.writing.Record.{Record}
+use Rattle.ob_store.specs.declared.writing.BuiltChange.{BuiltChange}
 
 start_within : (size : ℕ) (place : Place) → start_of size place + size ≤ size + size
 start_within size first = omega arith
@@ -41,10 +41,10 @@ move_built journal all (Err of_build.Memory) builds = tt
 
 -- ---- what is written to a journal, where there is one and something is
 
-module _ (i : Journal) (r : Record) (j : Option Journal) (b : Option Record) (is : j ≡ Some i) (said : b ≡ Some r) where
+module _ (i : Journal) (r : BuiltChange) (j : Option Journal) (b : Option BuiltChange) (is : j ≡ Some i) (said : b ≡ Some r) where
   pub crash_in : (v w : DiskView)
       → ((payloads : List (List ℕ)) (payload : List ℕ) → IsRecordOf i payload r → Holds i payloads v → During v w (StandsWithOrWithout i payloads payload r))
       → (payloads : List (List ℕ)) (payload : List ℕ) → IsRecordIn j payload b → HoldsIn j payloads v → During v w (StandsIn j payloads payload b)
   crash_in v w each =
-      let P : Option Journal → Option Record → Type 0 = λ x y. (payloads : List (List ℕ)) (payload : List ℕ) → IsRecordIn x payload y → HoldsIn x payloads v → During v w (StandsIn x payloads payload y) in
-      subst (λ (x : Option Journal). P x b) (sym is) (subst (λ (y : Option Record). P (Some i) y) (sym said) each)
+      let P : Option Journal → Option BuiltChange → Type 0 = λ x y. (payloads : List (List ℕ)) (payload : List ℕ) → IsRecordIn x payload y → HoldsIn x payloads v → During v w (StandsIn x payloads payload y) in
+      subst (λ (x : Option Journal). P x b) (sym is) (subst (λ (y : Option BuiltChange). P (Some i) y) (sym said) each)

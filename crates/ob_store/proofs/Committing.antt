@@ -27,8 +27,8 @@ use Rattle.ob_store.specs.declared.error.PrepareError.{PrepareError}
 use Rattle.ob_store.specs.declared.error.PrepareError.TheVariants.{Room, Memory}
 use Rattle.ob_store.specs.declared.store.Store.{Store}
 use Rattle.ob_store.specs.declared.store.Prepared.{Prepared}
-use Rattle.ob_store.specs.declared.writing.Record.{Record}
-use Rattle.ob_store.specs.declared.writing.Record.TheVariants.{Append, Move}
+use Rattle.ob_store.specs.declared.writing.BuiltChange.{BuiltChange}
+use Rattle.ob_store.specs.declared.writing.BuiltChange.TheVariants.{Append, Move}
 use Rattle.ob_store.proofs.Same.{same_parts}
 use Rattle.ob_store.proofs.Recording.{leads_more, nothing_differs, bytes_say}
 use Rattle.ob_store.proofs.Standing.{state_by, open_store_of, unsome_number}
@@ -36,32 +36,32 @@ use Rattle.ob_store.proofs.Standing.{state_by, open_store_of, unsome_number}
 -- ---- what is written
 
 -- the payload of what is written, where anything is
-abbrev pub payload_in : StoreProgram → Content → Content → Option Record → List ℕ
+abbrev pub payload_in : StoreProgram → Content → Content → Option BuiltChange → List ℕ
 payload_in program before after None = []
 payload_in program before after (Some r) = payload_for program before after r
 
-pub record_in : (program : StoreProgram) (before after : Content) (j : Option Journal) (b : Option Record) → SaysWhatDiffers program j before after b
+pub record_in : (program : StoreProgram) (before after : Content) (j : Option Journal) (b : Option BuiltChange) → SaysWhatDiffers program j before after b
     → IsRecordIn j (payload_in program before after b) b
 record_in program before after j None says = tt
 record_in program before after None (Some r) says = let no : ⊥ = cc in absurd no
 record_in program before after (Some j) (Some r) says = says.1
 
 -- where nothing is, there is no record
-pub no_record : (j : Option Journal) (b : Option Record) → IsBuiltFor j b → (option_map area_size j ≡ None) ⊎ (b ≡ None) → b ≡ None
+pub no_record : (j : Option Journal) (b : Option BuiltChange) → IsBuiltFor j b → (option_map area_size j ≡ None) ⊎ (b ≡ None) → b ≡ None
 no_record j None built nothing = refl
 no_record None (Some x) built nothing = absurd built.1
 no_record (Some i) (Some x) built (inl none) = let no : ⊥ = cc in absurd no
 no_record (Some i) (Some x) built (inr none) = none
 
-same_size : (i k : Journal) (p : List ℕ) (r : Record) → IsWritten i p r k → area_size k ≡ area_size i
+same_size : (i k : Journal) (p : List ℕ) (r : BuiltChange) → IsWritten i p r k → area_size k ≡ area_size i
 same_size i k p (Append b) is = is.same.area
 same_size i k p (Move b) is = is.same.area
 
-same_image : (i k : Journal) (p : List ℕ) (r : Record) → IsWritten i p r k → image_of k ≡ image_of i
+same_image : (i k : Journal) (p : List ℕ) (r : BuiltChange) → IsWritten i p r k → image_of k ≡ image_of i
 same_image i k p (Append b) is = is.same.image
 same_image i k p (Move b) is = is.same.image
 
-pub area_written : (j k : Option Journal) (p : List ℕ) (b : Option Record) → IsWrittenTo j p b k → option_map area_size k ≡ option_map area_size j
+pub area_written : (j k : Option Journal) (p : List ℕ) (b : Option BuiltChange) → IsWrittenTo j p b k → option_map area_size k ≡ option_map area_size j
 area_written j k p None written = ap (option_map area_size) written
 area_written None k p (Some x) written = absurd written
 area_written (Some i) None p (Some x) written = absurd written
@@ -72,7 +72,7 @@ area_written (Some i) (Some k) p (Some x) written = ap (λ (n : ℕ). Some n) (s
 module _ (program : StoreProgram) (before after : Content) (said : IsSaid program.table before after (changes_between program.table before after))
     (all : LeadFrom program.table empty_content (payload_of_all program after ∷ []) after) where
   -- the payloads lead to the content after
-  leads_with : (payloads : List (List ℕ)) (r : Record) → LeadFrom program.table empty_content payloads before
+  leads_with : (payloads : List (List ℕ)) (r : BuiltChange) → LeadFrom program.table empty_content payloads before
       → LeadFrom program.table empty_content (payloads_with payloads (payload_for program before after r) r) after
   leads_with payloads (Append b) leads =
       leads_more program.table empty_content before after payloads (payload_between program before after) (changes_between program.table before after) leads
@@ -83,7 +83,7 @@ module _ (program : StoreProgram) (before after : Content) (said : IsSaid progra
   kept_still : (j : Journaled) → IsKeptAs program before j → say_nothing (changes_between program.table before after) ≡ true → IsKeptAs program after j
   kept_still j kept none = subst (λ (x : Content). IsKeptAs program x j) (nothing_differs program.table before after said none) kept
 
-  pub kept_after : (j k : Option Journal) (b : Option Record) (v w : DiskView) → SaysWhatDiffers program j before after b → IsWrittenTo j (payload_in program before after b) b k
+  pub kept_after : (j k : Option Journal) (b : Option BuiltChange) (v w : DiskView) → SaysWhatDiffers program j before after b → IsWrittenTo j (payload_in program before after b) b k
       → ((payloads : List (List ℕ)) → HoldsIn j payloads v → HoldsIn k (payloads_in payloads (payload_in program before after b) b) w)
       → IsKeptIn program before j v → IsKeptIn program after k w
   kept_after None k None v w says written holds kept = subst (λ (x : Option Journal). IsKeptIn program after x w) (sym written) tt
@@ -131,7 +131,7 @@ second_fails true b is = is
 second_fails false b is = refl
 
 -- what becomes of a store by a record
-abbrev pub state_with : StoreProgram → Content → StoreState → Content → Record → StoreState
+abbrev pub state_with : StoreProgram → Content → StoreState → Content → BuiltChange → StoreState
 state_with program before s after (Append b) = with_record s (payload_between program before after) after
 state_with program before s after (Move b) = with_move program s (payload_of_all program after) after
 
@@ -164,7 +164,7 @@ module _ (program : StoreProgram) (before after : Content) (j : Journal) (image 
   one_gate : next_gate (with_payload (begun (image_of j)) all) ≡ gate_after_one program all
   one_gate = ap (λ (l : List ℕ). next_gate (with_payload (begun l) all)) image
 
-  pub settles_to : (r : Record) → SaysWhatDiffers program (Some j) before after (Some r) → settled program (Some size) s after ≡ Ok (state_with program before s after r)
+  pub settles_to : (r : BuiltChange) → SaysWhatDiffers program (Some j) before after (Some r) → settled program (Some size) s after ≡ Ok (state_with program before s after r)
   settles_to (Append b) says = tested false true (may_move program size s all) says.0 (fits_so (needed s bytes) size says.1.within) refl
   settles_to (Move b) says =
       let moves : may_move program size s all ≡ true =
@@ -188,13 +188,13 @@ module _ (program : StoreProgram) (before after : Content) (j : Journal) (image 
       ∙ ap (λ (m : ℕ). short_by m size) (sym lacks.needed) ∙ ap (λ (m : ℕ). short_by need m) (sym lacks.area)
 
   -- what was written says the same of it as what becomes of it
-  written_so : (k : Journal) (r : Record) → IsWritten j (payload_for program before after r) r k → state_with program before s after r ≡ state_by after (Some k)
+  written_so : (k : Journal) (r : BuiltChange) → IsWritten j (payload_for program before after r) r k → state_with program before s after r ≡ state_by after (Some k)
   written_so k (Append b) is = same_parts after after (gate_in k) (s.gate + 5 + length bytes) (journaled k []).serial s.serial refl (sym is.gate) (sym is.serial)
   written_so k (Move b) is =
       same_parts after after (gate_in k) (gate_after_one program all) (journaled k []).serial (with_move program s all after).serial refl
       (omega (arith, one_gate, is.gate)) (sym is.serial)
 
-pub settles : (program : StoreProgram) (before after : Content) (j k : Option Journal) (b : Option Record) → HasImageIn program j → SaysWhatDiffers program j before after b
+pub settles : (program : StoreProgram) (before after : Content) (j k : Option Journal) (b : Option BuiltChange) → HasImageIn program j → SaysWhatDiffers program j before after b
     → IsWrittenTo j (payload_in program before after b) b k → settled program (option_map area_size j) (state_by before j) after ≡ Ok (state_by after k)
 settles program before after None k None image says written = subst (λ (x : Option Journal). settled program None (state_by before None) after ≡ Ok (state_by after x)) (sym written) refl
 settles program before after None k (Some r) image says written = absurd written
@@ -204,7 +204,7 @@ settles program before after (Some j) None (Some r) image says written = absurd 
 settles program before after (Some j) (Some k) (Some r) image says written =
     settles_to program before after j image r says ∙ ap (λ (t : StoreState). Ok t) (written_so program before after j image k r written)
 
-settles_some : (program : StoreProgram) (before after : Content) (j : Option Journal) (b : Option Record) → HasImageIn program j → SaysWhatDiffers program j before after b
+settles_some : (program : StoreProgram) (before after : Content) (j : Option Journal) (b : Option BuiltChange) → HasImageIn program j → SaysWhatDiffers program j before after b
     → (t : StoreState) × (settled program (option_map area_size j) (state_by before j) after ≡ Ok t)
 settles_some program before after None b image says = (state_by after None, refl)
 settles_some program before after (Some j) None image says = (state_by after (Some j), settles_still program before after j image says)
@@ -219,7 +219,7 @@ prepared_settles program store prepared is =
 -- ---- what is made ready
 
 module _ (program : StoreProgram) (store : Store) (delta : Delta) (image : HasImage program store) (is_delta : IsDelta store.content delta) where
-  prepared_of : (built : Option Record) → SaysWhatDiffers program store.journal (content_of store.content) (content_with store.content delta) built
+  prepared_of : (built : Option BuiltChange) → SaysWhatDiffers program store.journal (content_of store.content) (content_with store.content delta) built
       → IsPrepared program store (record { delta = delta; built = built })
   prepared_of built says = record {
     image = image;
@@ -235,11 +235,11 @@ module _ (program : StoreProgram) (store : Store) (delta : Delta) (image : HasIm
       let here : P None = refl in (refl, prepared_of None (subst P (sym none) here))
 
   module _ (journal : Journal) (is : store.journal ≡ Some journal) where
-    pub prepared_by_record : (r : Result (Option Record) PrepareError) (built : Option Record) → r ≡ Ok built
+    pub prepared_by_record : (r : Result (Option BuiltChange) PrepareError) (built : Option BuiltChange) → r ≡ Ok built
         → BuildsWhatDiffers program journal (content_of store.content) (content_with store.content delta) r → Prepares program store delta (Ok (record { delta = delta; built = built }))
     prepared_by_record r built ok builds =
         let says : SaysWhatDiffers program (Some journal) (content_of store.content) (content_with store.content delta) built =
-        subst (λ (x : Result (Option Record) PrepareError). BuildsWhatDiffers program journal (content_of store.content) (content_with store.content delta) x) ok builds in
+        subst (λ (x : Result (Option BuiltChange) PrepareError). BuildsWhatDiffers program journal (content_of store.content) (content_with store.content delta) x) ok builds in
         (refl, prepared_of built (subst (λ (j : Option Journal). SaysWhatDiffers program j (content_of store.content) (content_with store.content delta) built) (sym is) says))
 
     lacks_both : (need size : ℕ) → BuildsWhatDiffers program journal (content_of store.content) (content_with store.content delta) (Err (Room need size))
@@ -249,10 +249,10 @@ module _ (program : StoreProgram) (store : Store) (delta : Delta) (image : HasIm
         subst (λ (j : Option Journal). settled program (option_map area_size j) (state_by (content_of store.content) j) (content_with store.content delta) ≡ Err (need, size)) (sym is)
         (settles_not program (content_of store.content) (content_with store.content delta) journal there need size builds.0 builds.1)
 
-    pub not_prepared : (r : Result (Option Record) PrepareError) (e : PrepareError) → r ≡ Err e
+    pub not_prepared : (r : Result (Option BuiltChange) PrepareError) (e : PrepareError) → r ≡ Err e
         → BuildsWhatDiffers program journal (content_of store.content) (content_with store.content delta) r → Prepares program store delta (Err e)
     not_prepared r (Room need size) not builds =
-        lacks_both need size (subst (λ (x : Result (Option Record) PrepareError). BuildsWhatDiffers program journal (content_of store.content) (content_with store.content delta) x) not builds)
+        lacks_both need size (subst (λ (x : Result (Option BuiltChange) PrepareError). BuildsWhatDiffers program journal (content_of store.content) (content_with store.content delta) x) not builds)
     not_prepared r Memory not builds = tt
 
 -- ---- what a crash leaves
@@ -265,7 +265,7 @@ module _ (program : StoreProgram) (before after : Content) (said : IsSaid progra
   left_before j v c kept stands =
       inl (open_store_of program before (area_size j) (place_of j) (journaled j kept.payloads) (gate_in j) c kept.kept was kept.holds.gate stands)
 
-  left_by : (j : Journal) (r : Record) (v : DiskView) (c : List ℕ) (kept : IsKeptIn program before (Some j) v) → SaysWhatDiffers program (Some j) before after (Some r)
+  left_by : (j : Journal) (r : BuiltChange) (v : DiskView) (c : List ℕ) (kept : IsKeptIn program before (Some j) v) → SaysWhatDiffers program (Some j) before after (Some r)
       → StandsIn (Some j) kept.payloads (payload_for program before after r) (Some r) c → StandsBeforeOrAfter program (area_size j) (state_by before (Some j)) after c
   left_by j (Append b) v c kept says left =
       let p = payload_between program before after in
@@ -290,7 +290,7 @@ module _ (program : StoreProgram) (before after : Content) (said : IsSaid progra
             (record { image = kept.kept.image; content_is = all }) will gate stands,
       )) left
 
-  pub leaves : (j : Option Journal) (b : Option Record) (size : ℕ) (v : DiskView) (kept : IsKeptIn program before j v) → SaysWhatDiffers program j before after b
+  pub leaves : (j : Option Journal) (b : Option BuiltChange) (size : ℕ) (v : DiskView) (kept : IsKeptIn program before j v) → SaysWhatDiffers program j before after b
       → option_map area_size j ≡ Some size → (c : List ℕ) → StandsIn j (payloads_of program before j v kept) (payload_in program before after b) b c
       → StandsBeforeOrAfter program size (state_by before j) after c
   leaves None b size v kept says area c left = let none : ⊥ = cc in absurd none

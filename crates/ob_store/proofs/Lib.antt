@@ -1,3 +1,4 @@
+pub mod Unchanged
 pub mod Same
 pub mod Standing
 pub mod Recording

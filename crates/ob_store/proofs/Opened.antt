@@ -4,7 +4,7 @@ use Rattle.std.proofs.lemmas.List.{append-nil, length-map}
 use Rattle.ob_table.specs.Tables.{ClassTable}
 use Rattle.ob_disk_spec.specs.Disk.{DiskView}
 use Rattle.ob_disk_spec.specs.Durable.{May, During}
-use Rattle.ob_disk_spec.proofs.Moments.{during_to, during_then, throughout_may}
+use Rattle.ob_disk_spec.proofs.Moments.{during_to, during_then}
 use Rattle.ob_heap.specs.Contents.{Stored, content_of, named_of}
 use Rattle.ob_heap.specs.Deltas.{with_handles}
 use Rattle.ob_heap.specs.Differences.{with_objects}
@@ -35,6 +35,7 @@ use Rattle.ob_store_spec.specs.Stores.{StoreProgram, IsStoreOf}
 use Rattle.ob_store_laws.specs.Recorded.{changes_of, content_with}
 use Rattle.ob_store.specs.Stores.{gate_of, serial_of, area_of_store, IsKeptAs, IsKeptIn, StandsOn}
 use Rattle.ob_store.specs.Opening.{Opens, FaultsAs, refused_by, IndexesOrLacks, IsKeptContent, IsFollowed, Follows, IsFirstBad, Replays, first_gate, Rebuilds, BeginsStore, LacksArea, StaysUnlessBlank, StaysWithoutRoom}
+use Rattle.ob_store.specs.Unchanged.{KeepsBytes}
 use Rattle.ob_store.specs.declared.store.Store.{Store}
 use Rattle.ob_store.specs.declared.error.OpenError.{OpenError}
 use Rattle.ob_store.specs.declared.error.OpenError.TheVariants.{NotStore, Damaged, OtherProgram, NotAtRest, Room, DiskFault, Memory}
@@ -48,6 +49,7 @@ use Rattle.ob_store_laws.proofs.Made.{changes_are_made_as_deltas}
 use Rattle.ob_store.proofs.Same.{same_by}
 use Rattle.ob_store.proofs.Recording.{leads_more}
 use Rattle.ob_store.proofs.Standing.{state_by, open_store_of}
+use Rattle.ob_store.proofs.Unchanged.{kept_then, kept_fresh}
 
 -- ---- the empty content
 
@@ -212,7 +214,7 @@ module _ (program : StoreProgram) (journal : Journal) (payloads : List (List ℕ
   rebuilt_lacks size (Err DiskFault) is = tt
   rebuilt_lacks size (Err Memory) is = tt
 
-  pub rebuilt_stays : (old new : DiskView) (r : Result Store OpenError) → Rebuilds program journal payloads r → During old new (May old) → StaysUnlessBlank program old new r
+  pub rebuilt_stays : (old new : DiskView) (r : Result Store OpenError) → Rebuilds program journal payloads r → KeepsBytes old new → StaysUnlessBlank program old new r
   rebuilt_stays old new (Ok store) is look = inr look
   rebuilt_stays old new (Err NotStore) is look = look
   rebuilt_stays old new (Err (Damaged offset)) is look = look
@@ -279,10 +281,6 @@ fails_first table content e id is answer = let P : RestError → Type 0 = λ x. 
 
 -- ---- a store is begun
 
--- what may be is still what may have been
-looked_twice : (old mid new : DiskView) → During old mid (May old) → During mid new (May mid) → During old new (May old)
-looked_twice old mid new look again = during_then old mid new _ look (during_to mid new _ _ again (λ c may. throughout_may mid (May old) look.now c may))
-
 module _ (program : StoreProgram) (size : ℕ) where
   pub begun_opens : (r : Result Store OpenError) (bytes : List ℕ) → BeginsStore program size r → IsBlankDisk size bytes → Opens program size r bytes
   begun_opens (Ok store) bytes is blank = inl (record {
@@ -317,19 +315,20 @@ module _ (program : StoreProgram) (size : ℕ) where
   begun_lacks (Err DiskFault) is = tt
   begun_lacks (Err Memory) is = tt
 
-  pub begun_stays : (old mid new : DiskView) (r : Result Store OpenError) → BeginsStore program size r → During old mid (May old) → StaysWithoutRoom mid new r → StaysUnlessBlank program old new r
-  begun_stays old mid new (Ok store) is look room = inl (record {
+  pub begun_stays : (old mid new : DiskView) (r : Result Store OpenError) → BeginsStore program size r → KeepsBytes old mid → IsFresh size mid → StaysWithoutRoom mid new r
+      → StaysUnlessBlank program old new r
+  begun_stays old mid new (Ok store) is look fresh room = inl (record {
     content = is.content;
     gate = ap gate_of is.journal_is ∙ is.gate;
     serial = ap serial_of is.journal_is ∙ ap (λ (j : Journaled). j.serial) is.says;
   })
-  begun_stays old mid new (Err NotStore) is look room = absurd is
-  begun_stays old mid new (Err (Damaged offset)) is look room = absurd is
-  begun_stays old mid new (Err (OtherProgram offset)) is look room = absurd is
-  begun_stays old mid new (Err (NotAtRest object)) is look room = absurd is
-  begun_stays old mid new (Err (Room need limit)) is look room = looked_twice old mid new look room
-  begun_stays old mid new (Err DiskFault) is look room = tt
-  begun_stays old mid new (Err Memory) is look room = tt
+  begun_stays old mid new (Err NotStore) is look fresh room = absurd is
+  begun_stays old mid new (Err (Damaged offset)) is look fresh room = absurd is
+  begun_stays old mid new (Err (OtherProgram offset)) is look fresh room = absurd is
+  begun_stays old mid new (Err (NotAtRest object)) is look fresh room = absurd is
+  begun_stays old mid new (Err (Room need limit)) is look fresh room = kept_then old mid new look (kept_fresh size mid new fresh room)
+  begun_stays old mid new (Err DiskFault) is look fresh room = tt
+  begun_stays old mid new (Err Memory) is look fresh room = tt
 
   pub begun_not : (image : List ℕ) (e : JournalError) → Begins size image (Err e) → image ≡ program.image → BeginsStore program size (Err (refused_by e))
   begun_not image of_journal.NotStore is same = absurd is
@@ -387,7 +386,7 @@ not_found_lacks program size (of_journal.Room need limit) none = absurd none
 not_found_lacks program size of_journal.DiskFault none = tt
 not_found_lacks program size of_journal.Memory none = tt
 
-pub not_found_stays : (program : StoreProgram) (old new : DiskView) (e : JournalError) → During old new (May old) → StaysUnlessBlank program old new (Err (refused_by e))
+pub not_found_stays : (program : StoreProgram) (old new : DiskView) (e : JournalError) → KeepsBytes old new → StaysUnlessBlank program old new (Err (refused_by e))
 not_found_stays program old new of_journal.NotStore look = look
 not_found_stays program old new (of_journal.Damaged offset) look = look
 not_found_stays program old new (of_journal.Room need limit) look = look

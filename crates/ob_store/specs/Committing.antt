@@ -15,7 +15,7 @@ use Rattle.ob_store.specs.Preparing.{IsPrepared}
 use Rattle.ob_store.specs.Writing.{payloads_with, IsWritten, StandsWithOrWithout}
 use Rattle.ob_store.specs.declared.store.Store.{Store}
 use Rattle.ob_store.specs.declared.store.Prepared.{Prepared}
-use Rattle.ob_store.specs.declared.writing.Record.{Record}
+use Rattle.ob_store.specs.declared.writing.BuiltChange.{BuiltChange}
 
 -- It was made ready for this store of a program, and leads from a store at rest to one.
 pub record IsReady (program : StoreProgram) (store : Store) (prepared : Prepared) : Type 0 where
@@ -41,19 +41,19 @@ KeepsBehindIn None old new = ⊤
 KeepsBehindIn (Some journal) old new = KeepsBehind (area_size journal + area_size journal) old new
 
 -- the payloads after a record of this one is written, where one is
-abbrev pub payloads_in : List (List ℕ) → List ℕ → Option Record → List (List ℕ)
+abbrev pub payloads_in : List (List ℕ) → List ℕ → Option BuiltChange → List (List ℕ)
 payloads_in payloads payload None = payloads
 payloads_in payloads payload (Some built) = payloads_with payloads payload built
 
 -- the record was written, where one was built
-abbrev pub IsWrittenTo : Option Journal → List ℕ → Option Record → Option Journal → Type 0
+abbrev pub IsWrittenTo : Option Journal → List ℕ → Option BuiltChange → Option Journal → Type 0
 IsWrittenTo before payload None after = after ≡ before
 IsWrittenTo None payload (Some built) after = ⊥
 IsWrittenTo (Some before) payload (Some built) None = ⊥
 IsWrittenTo (Some before) payload (Some built) (Some after) = IsWritten before payload built after
 
 -- the disk represents a journal, with the record or without it, where one was built
-abbrev pub StandsIn : Option Journal → List (List ℕ) → List ℕ → Option Record → List ℕ → Type 0
+abbrev pub StandsIn : Option Journal → List (List ℕ) → List ℕ → Option BuiltChange → List ℕ → Type 0
 StandsIn None payloads payload built c = ⊤
 StandsIn (Some journal) payloads payload None c = IsJournalAt (area_size journal) (place_of journal) (journaled journal payloads) c
 StandsIn (Some journal) payloads payload (Some built) c = StandsWithOrWithout journal payloads payload built c

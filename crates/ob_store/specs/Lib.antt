@@ -1,4 +1,5 @@
 pub mod Stores
+pub mod Unchanged
 pub mod Opening
 pub mod Writing
 pub mod Preparing

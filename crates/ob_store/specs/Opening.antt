@@ -21,6 +21,7 @@ use Rattle.ob_store_spec.specs.Payloads.{Changes}
 use Rattle.ob_store_spec.specs.Changes.{SaysChanges, with_changes, LeadFrom}
 use Rattle.ob_store_spec.specs.Stores.{StoreProgram, StoreState, IsStoreOf, IsRefused, not_store, damaged, other_program, not_at_rest}
 use Rattle.ob_store.specs.Stores.{state_of, TellsOwners, IsKeptAs}
+use Rattle.ob_store.specs.Unchanged.{KeepsBytes}
 use Rattle.ob_store.specs.declared.store.Store.{Store}
 use Rattle.ob_store.specs.declared.error.OpenError.{OpenError}
 use Rattle.ob_store.specs.declared.error.OpenError.TheVariants.{NotStore, Damaged, OtherProgram, NotAtRest, Room, DiskFault, Memory}
@@ -164,12 +165,12 @@ pub record IsBlankStart (program : StoreProgram) (s : StoreState) : Type 0 where
 
 -- No byte changes but where a blank disk is begun.
 abbrev pub StaysUnlessBlank : StoreProgram → DiskView → DiskView → Result Store OpenError → Type 0
-StaysUnlessBlank program old new (Ok store) = IsBlankStart program (state_of store) ⊎ During old new (May old)
+StaysUnlessBlank program old new (Ok store) = IsBlankStart program (state_of store) ⊎ KeepsBytes old new
 StaysUnlessBlank program old new (Err DiskFault) = ⊤
 StaysUnlessBlank program old new (Err Memory) = ⊤
-StaysUnlessBlank program old new (Err other) = During old new (May old)
+StaysUnlessBlank program old new (Err other) = KeepsBytes old new
 
--- nothing is written where the area is too small to be begun
+-- where the area is too small to be begun, each image, and what a read gives, was one before, or what a read gave
 abbrev pub StaysWithoutRoom : DiskView → DiskView → Result Store OpenError → Type 0
 StaysWithoutRoom old new (Err (Room need limit)) = During old new (May old)
 StaysWithoutRoom old new answer = ⊤

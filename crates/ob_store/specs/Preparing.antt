@@ -20,8 +20,8 @@ use Rattle.ob_store.specs.Stores.{area_of_store, state_of, HasImage}
 use Rattle.ob_store.specs.Writing.{IsRecordOf}
 use Rattle.ob_store.specs.declared.store.Store.{Store}
 use Rattle.ob_store.specs.declared.store.Prepared.{Prepared}
-use Rattle.ob_store.specs.declared.writing.Record.{Record}
-use Rattle.ob_store.specs.declared.writing.Record.TheVariants.{Append, Move}
+use Rattle.ob_store.specs.declared.writing.BuiltChange.{BuiltChange}
+use Rattle.ob_store.specs.declared.writing.BuiltChange.TheVariants.{Append, Move}
 use Rattle.ob_store.specs.declared.error.PrepareError.{PrepareError}
 use Rattle.ob_store.specs.declared.error.PrepareError.TheVariants.{Room, Memory}
 
@@ -30,13 +30,13 @@ abbrev pub delta_prepared : Prepared → Delta
 delta_prepared prepared = prepared.delta
 
 -- what is written was built of this payload for a journal; in memory nothing is
-abbrev pub IsRecordIn : Option Journal → List ℕ → Option Record → Type 0
+abbrev pub IsRecordIn : Option Journal → List ℕ → Option BuiltChange → Type 0
 IsRecordIn journal payload None = ⊤
 IsRecordIn None payload (Some built) = ⊥
 IsRecordIn (Some journal) payload (Some built) = IsRecordOf journal payload built
 
 -- what is written was built for a journal
-abbrev pub IsBuiltFor : Option Journal → Option Record → Type 0
+abbrev pub IsBuiltFor : Option Journal → Option BuiltChange → Type 0
 IsBuiltFor journal built = (payload : List ℕ) × IsRecordIn journal payload built
 
 -- what was made ready was built for the journal of a store
@@ -48,17 +48,17 @@ abbrev pub WritesNothing : Store → Prepared → Type 0
 WritesNothing store prepared = (area_of_store store ≡ None) ⊎ (prepared.built ≡ None)
 
 -- the payload of a record: it says what differs between two contents, or all of the second
-abbrev pub payload_for : StoreProgram → Content → Content → Record → List ℕ
+abbrev pub payload_for : StoreProgram → Content → Content → BuiltChange → List ℕ
 payload_for program before after (Append built) = payload_between program before after
 payload_for program before after (Move built) = payload_of_all program after
 
 -- a move comes only where a record of what differs doesn't fit
-abbrev pub IsWanted : StoreProgram → Journal → Content → Content → Record → Type 0
+abbrev pub IsWanted : StoreProgram → Journal → Content → Content → BuiltChange → Type 0
 IsWanted program journal before after (Append built) = ⊤
 IsWanted program journal before after (Move built) = area_size journal < need_for journal (payload_between program before after)
 
 -- a record says how one content becomes another; where nothing differs, or the store is in memory, there is none
-abbrev pub SaysWhatDiffers : StoreProgram → Option Journal → Content → Content → Option Record → Type 0
+abbrev pub SaysWhatDiffers : StoreProgram → Option Journal → Content → Content → Option BuiltChange → Type 0
 SaysWhatDiffers program None before after built = built ≡ None
 SaysWhatDiffers program (Some journal) before after None = say_nothing (changes_between program.table before after) ≡ true
 SaysWhatDiffers program (Some journal) before after (Some built) =
@@ -100,7 +100,7 @@ BuildsMove journal payload (Err of_build.Memory) = ⊤
 
 -- What building a record answers: there is none where nothing differs, and `Room` comes exactly where the area has no room for what
 -- differs, and the other one none for all.
-abbrev pub BuildsWhatDiffers : StoreProgram → Journal → Content → Content → Result (Option Record) PrepareError → Type 0
+abbrev pub BuildsWhatDiffers : StoreProgram → Journal → Content → Content → Result (Option BuiltChange) PrepareError → Type 0
 BuildsWhatDiffers program journal before after (Ok built) = SaysWhatDiffers program (Some journal) before after built
 BuildsWhatDiffers program journal before after (Err (Room need size)) =
     LacksRoom program journal before after need size × CannotMove journal (payload_of_all program after)

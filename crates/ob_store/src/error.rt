@@ -4,7 +4,7 @@ use ob_base::ObjectId;
 /// Why no store was opened.
 #[derive(Clone, Copy)]
 pub enum OpenError {
-    /// The area is open and has no header.
+    /// One of the two areas is open and has no header.
     NotStore,
     /// Behind the open gate at this offset, counted from the disk's start, stands no record, or one whose payload says no
     /// changes of the content before it.

@@ -95,7 +95,8 @@ fn replay(alloc: Global, code: &Image, gate: u64, records: &[u8]) -> Result<Cont
     Ok(content)
 }
 
-// The content to which a journal's records lead. The bytes that were read go before it is looked at.
+// The content to which a journal's records lead. The bytes that were read are freed before it is tested, but for memory that the journal
+// keeps.
 fn replayed(
     alloc: Global,
     code: &Image,
@@ -106,7 +107,9 @@ fn replayed(
         Replays (table_of_image code.now) (first_gate journal.now) payloads result }
     ensures kept { IsKeptIfOk (table_of_image code.now) result }
 {
-    replay(alloc, code, journal.records_offset(), recorded.records())
+    let content = replay(alloc, code, journal.records_offset(), recorded.records());
+    journal.keep_memory(recorded);
+    content
 }
 
 // The store with a content to which a journal's records lead.

@@ -3,12 +3,13 @@ ghost use Rattle.std.specs.Prelude.{◌≡◌, ◌≤◌, ◌^◌, ℕ, List, If
 ghost use Rattle.ob_code.specs.Images.{image};
 ghost use Rattle.ob_code_table.specs.ImageTables.{table_of_image};
 ghost use Rattle.ob_disk_spec.specs.Disk.{Reads};
-ghost use Rattle.ob_disk_spec.specs.Durable.{May, During, KeepsBehind};
+ghost use Rattle.ob_disk_spec.specs.Durable.{KeepsBehind};
 ghost use Rattle.ob_heap.specs.Contents.{content_of};
 ghost use Rattle.ob_rest_spec.specs.AtRest.{IsStoreAtRest};
 ghost use Rattle.ob_store.specs.Opening.{FaultsAs};
 ghost use Rattle.ob_store.specs.Reading.{HoldsAs, NeedsNoArea, ReadsStore};
 ghost use Rattle.ob_store.specs.Stores.{program_of};
+ghost use Rattle.ob_store.specs.Unchanged.{KeepsBytes};
 
 use crate::error::OpenError;
 use crate::opening::{rebuilt, refused_by};
@@ -51,7 +52,7 @@ pub fn read_store<D: Disk>(
     ensures read { (c : List ℕ) → Reads (D.view disk.old) c → ReadsStore (program_of code.now) area result c }
     ensures area { NeedsNoArea result }
     ensures at_rest { IfOk result (λ content. IsStoreAtRest (table_of_image code.now) (content_of content)) }
-    ensures quiet { During (D.view disk.old) (D.view disk.new) (May (D.view disk.old)) }
+    ensures quiet { KeepsBytes (D.view disk.old) (D.view disk.new) }
     ensures behind { (size : ℕ) → KeepsBehind size (D.view disk.old) (D.view disk.new) }
     ensures attaches { (D.view disk.new).attaches ≡ (D.view disk.old).attaches }
     ensures cause { FaultsAs result (D.view disk.old).faults (D.view disk.new).faults }

@@ -15,13 +15,14 @@ ghost use Rattle.ob_store_laws.specs.Recorded.{content_with, IsStorable};
 ghost use Rattle.ob_store_spec.specs.Settling.{settled};
 ghost use Rattle.ob_store_spec.specs.Stores.{StoreProgram};
 ghost use Rattle.ob_store.specs.Stores.{program_of, area_of_store, kept_of, state_of, HasImage, TellsOwners, StandsOn, IsSameStore};
+ghost use Rattle.ob_store.specs.Unchanged.{KeepsBytes};
 ghost use Rattle.ob_store.specs.Opening.{IsIndexed, Opens, LacksArea, StaysUnlessBlank, FaultsAs};
 ghost use Rattle.ob_store.specs.Preparing.{delta_prepared, IsBuiltForStore, WritesNothing, IsPrepared, Prepares, HasRoomFor};
 ghost use Rattle.ob_store.specs.Committing.{IsReady, StandsBeforeOrAfter};
 
 use crate::error::{OpenError, PrepareError};
 use crate::opening::{begin_store, rebuilt, refused_by};
-use crate::writing::{Record, build_record, write_in};
+use crate::writing::{BuiltChange, build_change, write_in};
 use ob_base::Memory;
 use ob_code::Image;
 use ob_disk::Disk;
@@ -43,7 +44,7 @@ pub struct Store {
 #[derive(Drop)]
 pub struct Prepared {
     delta: Delta,
-    built: Option<Record>,
+    built: Option<BuiltChange>,
 }
 
 /// A store with this content and this journal, and the index of its owners.
@@ -109,8 +110,10 @@ impl Store {
         ensures at_rest { IfOk result (λ store. IsStoreAtRest (table_of_image code.now) (content_of (kept_of store))) }
         ensures stands { IfOk result (λ store. StandsOn (program_of code.now) store (D.view disk.new)) }
         ensures quiet { (c : List ℕ) → Reads (D.view disk.old) c → ¬ (IsBlankDisk area c) →
-            During (D.view disk.old) (D.view disk.new) (May (D.view disk.old)) }
+            KeepsBytes (D.view disk.old) (D.view disk.new) }
         ensures still { StaysUnlessBlank (program_of code.now) (D.view disk.old) (D.view disk.new) result }
+        ensures reads { (c : List ℕ) → Reads (D.view disk.new) c →
+            Reads (D.view disk.old) c ⊎ IsBlankOrBegunDisk area (image.bytes code.now) c }
         ensures crash { During (D.view disk.old) (D.view disk.new)
             (λ c. May (D.view disk.old) c ⊎ IsBlankOrBegunDisk area (image.bytes code.now) c) }
         ensures behind { KeepsBehind area (D.view disk.old) (D.view disk.new) }
@@ -156,13 +159,17 @@ impl Store {
         let Some(journal) = &self.journal else {
             return Ok(Prepared { delta, built: None });
         };
-        match build_record(alloc, code, &self.content, journal, &delta) {
+        match build_change(alloc, code, &self.content, journal, &delta) {
             Ok(built) => Ok(Prepared { delta, built }),
             Err(error) => Err(error),
         }
     }
 
-    /// Takes all memory that committing needs.
+    /// Takes all memory that committing needs. The store is the same but for that memory, also at an `Err`.
+    ///
+    /// # Errors
+    ///
+    /// `Memory` where memory ran out.
     pub fn reserve(&mut self, prepared: &Prepared) -> Result<(), Memory>
         requires { IsDelta (kept_of self.old) (delta_prepared prepared.now) }
         ensures room { OnOk result (HasRoomFor self.new prepared.now) }
@@ -202,7 +209,7 @@ impl Store {
         ensures behind { (size : ℕ) → area_of_store self.old ≡ Some size → KeepsBehind (size + size) (D.view disk.old) (D.view disk.new) }
         ensures attaches { (D.view disk.new).attaches ≡ (D.view disk.old).attaches }
         ensures sure { WritesNothing self.old prepared → IsTrue (is_ok result) }
-        ensures err { OnErr result (state_of self.new ≡ state_of self.old) }
+        ensures err { OnErr result (self.new ≡ self.old) }
         ensures cause { HasCause (D.view disk.old).faults (D.view disk.new).faults result }
     {
         let Prepared { delta, built } = prepared;

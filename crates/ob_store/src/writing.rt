@@ -23,9 +23,9 @@ use ob_journal::{BuildError, Built, BuiltArea, DiskFault, Journal};
 use ob_store_payload::{put_payload, put_whole};
 use std::alloc::Global;
 
-/// What is written of a delta.
+/// What is built of a delta, to be written.
 #[derive(Drop)]
-pub enum Record {
+pub enum BuiltChange {
     /// A record of what differs, behind the others.
     Append(Built),
     /// The other area, with one record of all of the content after the delta.
@@ -85,23 +85,23 @@ fn build_move(
 /// # Errors
 ///
 /// `Room`, with what the record of what differs needs, where the move isn't possible either; `Memory` where memory ran out.
-pub fn build_record(
+pub fn build_change(
     alloc: Global,
     code: &Image,
     content: &Content,
     journal: &Journal,
     delta: &Delta,
-) -> Result<Option<Record>, PrepareError>
+) -> Result<Option<BuiltChange>, PrepareError>
     requires content { IsContent (table_of_image code.now) (content_of content.now) }
     requires delta { IsDelta content.now delta.now }
     ensures { BuildsWhatDiffers (program_of code.now) journal.now (content_of content.now) (content_with content.now delta.now) result }
 {
     match build_append(alloc, code, content, journal, delta) {
         Ok(None) => Ok(None),
-        Ok(Some(built)) => Ok(Some(Record::Append(built))),
+        Ok(Some(built)) => Ok(Some(BuiltChange::Append(built))),
         Err(BuildError::Room(need, size)) => {
             match build_move(alloc, code, content, journal, delta) {
-                Ok(built) => Ok(Some(Record::Move(built))),
+                Ok(built) => Ok(Some(BuiltChange::Move(built))),
                 Err(BuildError::Room(_, _)) => Err(PrepareError::Room(need, size)),
                 Err(BuildError::Memory) => Err(PrepareError::Memory),
             }
@@ -111,10 +111,10 @@ pub fn build_record(
 }
 
 // Appends the record, or moves.
-fn write_record<D: Disk>(
+fn write_change<D: Disk>(
     journal: &mut Journal,
     disk: &mut D,
-    built: Record,
+    built: BuiltChange,
 ) -> Result<(), DiskFault>
     requires { IsRecordFor journal.old built }
     ensures written { OnOk result ((payload : List ℕ) → IsRecordOf journal.old payload built → IsWritten journal.old payload built journal.new) }
@@ -129,11 +129,11 @@ fn write_record<D: Disk>(
     ensures cause { HasCause (D.view disk.old).faults (D.view disk.new).faults result }
 {
     match built {
-        Record::Append(built) => {
+        BuiltChange::Append(built) => {
             journal.append(disk, built)?;
             Ok(())
         }
-        Record::Move(built) => {
+        BuiltChange::Move(built) => {
             journal.move_to(disk, built)?;
             Ok(())
         }
@@ -144,7 +144,7 @@ fn write_record<D: Disk>(
 pub fn write_in<D: Disk>(
     journal: &mut Option<Journal>,
     disk: &mut D,
-    built: Option<Record>,
+    built: Option<BuiltChange>,
 ) -> Result<(), DiskFault>
     requires { IsBuiltFor journal.old built }
     ensures written { OnOk result ((payload : List ℕ) → IsRecordIn journal.old payload built → IsWrittenTo journal.old payload built journal.new) }
@@ -166,6 +166,6 @@ pub fn write_in<D: Disk>(
     let Some(journal) = journal else {
         return Ok(());
     };
-    write_record(journal, disk, built)?;
+    write_change(journal, disk, built)?;
     Ok(())
 }

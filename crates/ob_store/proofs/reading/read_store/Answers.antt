@@ -8,6 +8,7 @@ use Rattle.ob_store.specs.Stores.{program_of}
 use Rattle.ob_store.specs.declared.error.OpenError.{OpenError}
 use Rattle.ob_store.proofs.Opened.{empty_of, rest_empty, blank_found, current_in, found_opens, rebuilt_calm, rebuilt_rests, not_found, faults_as}
 use Rattle.ob_store.proofs.ReadingLemmas.{blank_reads, refused, faults, held_needs, held_reads, held_rests, held_faults, not_found_needs}
+use Rattle.ob_store.proofs.Unchanged.{kept_behind}
 use Rattle.ob_store.proofs.reading.read_store.Goals as goal
 
 -- ---- a blank disk
@@ -70,3 +71,14 @@ pub returns-in-Err-clause-cause : goal.returns-in-Err-clause-cause
 returns-in-Err-clause-cause g c =
     let P : OpenError → Type 0 = λ e. FaultsAs {T = Stored} (Err e) (g.D.Disk.view c.args.disk.now).faults (g.D.Disk.view c.find.new.disk).faults in
     subst P (sym c.refused_by.ensures) (faults _ _ _ (faults_as Found c.in-Err.error _ _ c.in-Err.ensures.cause))
+
+-- ---- no byte of the disk changed
+
+pub returns-in-Ok-Blank-clause-quiet : goal.returns-in-Ok-Blank-clause-quiet
+returns-in-Ok-Blank-clause-quiet g c = kept_behind _ _ (c.find.ensures.behind 0) c.find.ensures.quiet
+
+pub returns-in-Ok-Current-clause-quiet : goal.returns-in-Ok-Current-clause-quiet
+returns-in-Ok-Current-clause-quiet g c = kept_behind _ _ (c.find.ensures.behind 0) c.find.ensures.quiet
+
+pub returns-in-Err-clause-quiet : goal.returns-in-Err-clause-quiet
+returns-in-Err-clause-quiet g c = kept_behind _ _ (c.find.ensures.behind 0) c.find.ensures.quiet

@@ -1,15 +1,17 @@
-use Rattle.std.proofs.Common.{◌∙◌, sym, ap, subst, refl, Ok, option_map}
+use Rattle.std.proofs.Common.{◌∙◌, sym, ap, subst, Ok, Option, option_map}
 use Rattle.ob_disk_spec.proofs.Moments.{during_to}
 use Rattle.ob_heap.specs.Contents.{content_of}
 use Rattle.ob_heap.specs.Deltas.{with_handles}
 use Rattle.ob_heap.specs.Differences.{with_objects}
 use Rattle.ob_heap_spec.specs.Contents.{Content}
 use Rattle.ob_journal.specs.Journals.{area_size}
+use Rattle.ob_journal.specs.declared.journal.Journal.{Journal}
 use Rattle.ob_owners.specs.Indexes.{IsIndexOf}
 use Rattle.ob_store_laws.specs.Recorded.{content_with}
 use Rattle.ob_store_laws.proofs.Whole.{all_leads}
-use Rattle.ob_store.specs.Stores.{gate_of, serial_of, IsKeptIn}
-use Rattle.ob_store.proofs.Same.{same_by, same_parts}
+use Rattle.ob_store.specs.Stores.{IsKeptIn}
+use Rattle.ob_store.specs.declared.store.Store.{Store}
+use Rattle.ob_store.proofs.Same.{same_by}
 use Rattle.ob_store.proofs.Recording.{said_after}
 use Rattle.ob_store.proofs.Standing.{state_by, behind_areas}
 use Rattle.ob_store.proofs.Committing.{payload_in, record_in, payloads_of, held, kept_after, settles, leaves, no_record, area_written}
@@ -85,7 +87,8 @@ returns-in_default-clause-area g c = ap (option_map area_size) c.in_default.ensu
 
 pub returns-in_default-clause-err : goal.returns-in_default-clause-err
 returns-in_default-clause-err g c =
-    same_parts (content_of c.args.self.now.content) (content_of c.args.self.now.content) _ _ _ _ refl (ap gate_of c.in_default.ensures.err) (ap serial_of c.in_default.ensures.err)
+    let s = c.args.self.now in
+    ap (λ (j : Option Journal). let store : Store = record { content = s.content; owners = s.owners; journal = j } in store) c.in_default.ensures.err
 
 pub returns-clause-nothing : goal.returns-clause-nothing
 returns-clause-nothing g c = λ nothing. c.write_in.ensures.none (no_record c.args.self.now.journal c.args.prepared.built c.requires.built nothing)

@@ -1,4 +1,4 @@
-use Rattle.std.proofs.Common.{sym, subst, ℕ, Err, IfOk}
+use Rattle.std.proofs.Common.{inl, inr, sym, subst, ℕ, Err, IfOk}
 use Rattle.ob_disk_spec.proofs.Behind.{behind_then}
 use Rattle.ob_code.specs.Images.{image}
 use Rattle.ob_code.specs.declared.image.Image.{Image}
@@ -10,6 +10,7 @@ use Rattle.ob_journal.specs.declared.journal.Found.{Found}
 use Rattle.ob_store.specs.Opening.{Opens, BeginsStore, Rebuilds, LacksArea, StaysUnlessBlank, FaultsAs}
 use Rattle.ob_store.specs.declared.store.Store.{Store}
 use Rattle.ob_store.specs.declared.error.OpenError.{OpenError}
+use Rattle.ob_store.proofs.Unchanged.{kept_behind}
 use Rattle.ob_store.proofs.Opened.{blank_found, blank_in, current_in, begun_opens, begun_area, begun_rests, begun_lacks, begun_stays, if_fresh, found_opens, rebuilt_calm, rebuilt_area, rebuilt_rests, rebuilt_stands, rebuilt_lacks, rebuilt_stays, not_found, not_found_lacks, not_found_stays, faults_as, unwritten, begun_behind}
 use Rattle.ob_store.proofs.store.Store.open_store.Goals as goal
 
@@ -37,7 +38,14 @@ returns-in-Ok-Blank-clause-quiet g c = λ c' reads is_not.
     absurd (is_not (blank_found c.args.area _ c' c.in-Ok-Blank.field-0-is (c.in-Ok-Blank.ensures.found c' reads)))
 
 pub returns-in-Ok-Blank-clause-still : goal.returns-in-Ok-Blank-clause-still
-returns-in-Ok-Blank-clause-still g c = begun_stays (program_of c.args.code.now) c.args.area _ _ _ _ (subst (λ (x : Image). BeginsStore (program_of x) c.args.area c.begin_store.result) c.image.ensures.image c.begin_store.ensures.begun) c.find.ensures.quiet c.begin_store.ensures.room
+returns-in-Ok-Blank-clause-still g c = begun_stays (program_of c.args.code.now) c.args.area _ _ _ _ (subst (λ (x : Image). BeginsStore (program_of x) c.args.area c.begin_store.result) c.image.ensures.image c.begin_store.ensures.begun)
+    (kept_behind _ _ (c.find.ensures.behind 0) c.find.ensures.quiet)
+    (blank_in c.args.area _ _ c.in-Ok-Blank.field-0-is c.in-Ok-Blank.ensures.whole) c.begin_store.ensures.room
+
+pub returns-in-Ok-Blank-clause-reads : goal.returns-in-Ok-Blank-clause-reads
+returns-in-Ok-Blank-clause-reads g c = λ c' reads.
+    let P : Image → Type 0 = λ x. IsBlankOrBegunDisk c.args.area (image.bytes x) c' in
+    inr (subst P c.image.ensures.image ((c.begin_store.ensures.crash (blank_in c.args.area _ _ c.in-Ok-Blank.field-0-is c.in-Ok-Blank.ensures.whole)).now.content c' reads))
 
 pub returns-in-Ok-Blank-clause-crash : goal.returns-in-Ok-Blank-clause-crash
 returns-in-Ok-Blank-clause-crash g c =
@@ -80,13 +88,17 @@ returns-in-Ok-Current-clause-stands g c =
     (subst (λ (x : Image). Rebuilds (program_of x) c.in-Ok-Current.journal there.payloads c.rebuilt.result) c.image-in-Ok-Current.ensures.image (c.rebuilt.ensures there.payloads there.has)) there.holds
 
 pub returns-in-Ok-Current-clause-quiet : goal.returns-in-Ok-Current-clause-quiet
-returns-in-Ok-Current-clause-quiet g c = λ c' reads is_not. c.find.ensures.quiet
+returns-in-Ok-Current-clause-quiet g c = λ c' reads is_not. kept_behind _ _ (c.find.ensures.behind 0) c.find.ensures.quiet
 
 pub returns-in-Ok-Current-clause-still : goal.returns-in-Ok-Current-clause-still
 returns-in-Ok-Current-clause-still g c =
     let there = current_in c.args.area _ c.in-Ok-Current.journal c.in-Ok-Current.recorded _ c.in-Ok-Current.field-0-is c.in-Ok-Current.ensures.whole in
     rebuilt_stays (program_of c.args.code.now) c.in-Ok-Current.journal there.payloads _ _ _
-    (subst (λ (x : Image). Rebuilds (program_of x) c.in-Ok-Current.journal there.payloads c.rebuilt.result) c.image-in-Ok-Current.ensures.image (c.rebuilt.ensures there.payloads there.has)) c.find.ensures.quiet
+    (subst (λ (x : Image). Rebuilds (program_of x) c.in-Ok-Current.journal there.payloads c.rebuilt.result) c.image-in-Ok-Current.ensures.image (c.rebuilt.ensures there.payloads there.has))
+    (kept_behind _ _ (c.find.ensures.behind 0) c.find.ensures.quiet)
+
+pub returns-in-Ok-Current-clause-reads : goal.returns-in-Ok-Current-clause-reads
+returns-in-Ok-Current-clause-reads g c = λ c' reads. inl ((kept_behind _ _ (c.find.ensures.behind 0) c.find.ensures.quiet).content c' reads)
 
 pub returns-in-Ok-Current-clause-crash : goal.returns-in-Ok-Current-clause-crash
 returns-in-Ok-Current-clause-crash g c = unwritten _ _ c.args.area _ c.find.ensures.quiet
@@ -110,12 +122,15 @@ returns-in-Err-clause-room g c =
     subst P (sym c.refused_by.ensures) (not_found_lacks (program_of c.args.code.now) c.args.area c.in-Err.error c.in-Err.ensures.room)
 
 pub returns-in-Err-clause-quiet : goal.returns-in-Err-clause-quiet
-returns-in-Err-clause-quiet g c = λ c' reads is_not. c.find.ensures.quiet
+returns-in-Err-clause-quiet g c = λ c' reads is_not. kept_behind _ _ (c.find.ensures.behind 0) c.find.ensures.quiet
 
 pub returns-in-Err-clause-still : goal.returns-in-Err-clause-still
 returns-in-Err-clause-still g c =
     let P : OpenError → Type 0 = λ e. StaysUnlessBlank (program_of c.args.code.now) (g.D.Disk.view c.args.disk.now) (g.D.Disk.view c.find.new.disk) (Err e) in
-    subst P (sym c.refused_by.ensures) (not_found_stays (program_of c.args.code.now) _ _ c.in-Err.error c.find.ensures.quiet)
+    subst P (sym c.refused_by.ensures) (not_found_stays (program_of c.args.code.now) _ _ c.in-Err.error (kept_behind _ _ (c.find.ensures.behind 0) c.find.ensures.quiet))
+
+pub returns-in-Err-clause-reads : goal.returns-in-Err-clause-reads
+returns-in-Err-clause-reads g c = λ c' reads. inl ((kept_behind _ _ (c.find.ensures.behind 0) c.find.ensures.quiet).content c' reads)
 
 pub returns-in-Err-clause-crash : goal.returns-in-Err-clause-crash
 returns-in-Err-clause-crash g c = unwritten _ _ c.args.area _ c.find.ensures.quiet
