@@ -5,11 +5,11 @@ use Rattle.serde_json.specs.Data.{Data}
 use Rattle.serde_json.specs.Written.{has_float, compact_text}
 use Rattle.ob_wire.specs.declared.request.Request.{Request}
 use Rattle.ob_client.specs.RequestLines.{request_json, request_line}
-use Rattle.ob_client.specs.Trials.{Holding, Wish, wish_of, holding_after, request_of, drawn_after, requests_from, lines_of_requests, trial_lines}
+use Rattle.ob_client.specs.Trials.{TrialClient, Wish, wish_of, holding_after, request_of, drawn_after, requests_from, lines_of_requests, trial_lines}
 use Rattle.ob_client.proofs.RequestValues.{request_whole}
 
 -- so many lines are written, and with those of the rest of the requests they are all
-pub record IsWritten (length : ℕ) (lines : List ℕ) (done drawn : ℕ) (held : Holding) : Type 0 where
+pub record IsWritten (length : ℕ) (lines : List ℕ) (done drawn : ℕ) (held : TrialClient) : Type 0 where
   pub few : done ≤ length
   pub below : drawn < 256
   pub all : lines ++ lines_of_requests (requests_from (length - done) (suc done) drawn held) ≡ trial_lines length
@@ -25,13 +25,13 @@ line_put old new value r is put = put (ap has_float is ∙ request_whole r) ∙ 
 one_less : (length done : ℕ) → done < length → length - done ≡ suc (length - suc done)
 one_less length done lt = omega (arith, lt)
 
-after_one : (length : ℕ) (lines new : List ℕ) (done drawn next : ℕ) (held after : Holding) (wish : Wish) (value : Data) → IsWritten length lines done drawn held
+after_one : (length : ℕ) (lines new : List ℕ) (done drawn next : ℕ) (held after : TrialClient) (wish : Wish) (value : Data) → IsWritten length lines done drawn held
     → done < length → next ≡ drawn_after drawn → next < 256 → wish ≡ wish_of (next / 64) held → value ≡ request_json (request_of (suc done) wish)
     → Puts lines new value → after ≡ holding_after (suc done) wish held → IsWritten length new (suc done) next after
 after_one length lines new done drawn next held after wish value h lt next_is low wish_is is put after_is = record {
   few = omega (arith, lt);
   below = low;
-  all = ap₂ (λ (l : List ℕ) (x : Holding). l ++ rest next x) (line_put lines new value (request_of (suc done) wish) is put) after_is
+  all = ap₂ (λ (l : List ℕ) (x : TrialClient). l ++ rest next x) (line_put lines new value (request_of (suc done) wish) is put) after_is
       ∙ append_assoc lines (request_line (request_of (suc done) wish) ++ codes "\n") (rest next (holding_after (suc done) wish held))
       ∙ ap (λ (l : List ℕ). lines ++ l) (append_assoc (request_line (request_of (suc done) wish)) (codes "\n") (rest next (holding_after (suc done) wish held)))
       ∙ ap₂ (λ (d : ℕ) (w : Wish). lines ++ (request_line (request_of (suc done) w) ++ (codes "\n" ++ rest d (holding_after (suc done) w held)))) next_is
@@ -39,7 +39,7 @@ after_one length lines new done drawn next held after wish value h lt next_is lo
       ∙ left (length - done) (one_less length done lt) h.all;
 }
   where
-    rest : ℕ → Holding → List ℕ
+    rest : ℕ → TrialClient → List ℕ
     rest d x = lines_of_requests (requests_from (length - suc done) (suc (suc done)) d x)
 
     left : (n : ℕ) → n ≡ suc (length - suc done) → lines ++ lines_of_requests (requests_from n (suc done) drawn held) ≡ trial_lines length
@@ -47,7 +47,7 @@ after_one length lines new done drawn next held after wish value h lt next_is lo
     left n e all = subst (λ (m : ℕ). lines ++ lines_of_requests (requests_from m (suc done) drawn held) ≡ trial_lines length) e all
 
 -- one more line
-pub goes_on : (length : ℕ) (lines new : List ℕ) (done number drawn next : ℕ) (held after : Holding) (wish : Wish) (value : Data) → number ≡ suc done
+pub goes_on : (length : ℕ) (lines new : List ℕ) (done number drawn next : ℕ) (held after : TrialClient) (wish : Wish) (value : Data) → number ≡ suc done
     → IsWritten length lines done drawn held → done < length → next ≡ drawn_after drawn → next < 256 → wish ≡ wish_of (next / 64) held
     → value ≡ request_json (request_of number wish) → Puts lines new value → after ≡ holding_after number wish held → IsWritten length new number next after
 goes_on length lines new done number drawn next held after wish value e h lt next_is low wish_is is put after_is =

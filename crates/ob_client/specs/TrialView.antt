@@ -1,11 +1,11 @@
 -- What the code's values of the trial stand for.
-use Rattle.ob_client.specs.Trials.{Holding, Wish, mint, bake, restock, buy}
-use Rattle.ob_client.specs.declared.trial.Holding.{Holding as CodeHolding}
+use Rattle.ob_client.specs.Trials.{TrialClient, Wish, mint, bake, restock, buy}
+use Rattle.ob_client.specs.declared.trial.TrialClient.{TrialClient as CodeClient}
 use Rattle.ob_client.specs.declared.trial.Wish.{Wish as CodeWish}
 use Rattle.ob_client.specs.declared.trial.Wish.TheVariants.{Mint, Bake, Restock, Buy}
 
 -- what is held
-abbrev pub holding_view : CodeHolding → Holding
+abbrev pub holding_view : CodeClient → TrialClient
 holding_view h = record { coins = h.coins.items; candies = h.candies.items; is_full = h.is_full }
 
 -- what is asked

@@ -7,15 +7,15 @@ use Rattle.ob_wire.specs.declared.request.Request.{Request}
 use Rattle.ob_wire.specs.declared.request.Op.TheVariants.{New, Call}
 use Rattle.ob_client.specs.RequestLines.{request_line}
 
--- What the client holds of what it got: coins and candies by the numbers of the requests that gave them, the oldest first; and whether
--- the machine is full.
-pub record Holding : Type 0 where
+-- The one client of a trial: what it holds of what it got, coins and candies by the numbers of the requests that gave them, the oldest
+-- first; and whether the machine is full.
+pub record TrialClient : Type 0 where
   pub coins : List ℕ
   pub candies : List ℕ
   pub is_full : Bool
 
 -- at the beginning the machine is empty
-abbrev pub nothing_held : Holding
+abbrev pub nothing_held : TrialClient
 nothing_held = record { coins = []; candies = []; is_full = false }
 
 -- what is asked of the machine: a coin; a candy; that it takes this candy; that it sells its candy for this coin
@@ -40,7 +40,7 @@ buy_or_mint true (Some coin) = buy coin
 buy_or_mint _ _ = mint
 
 -- what is asked where a number from 0 to 3 was drawn
-abbrev pub wish_of : ℕ → Holding → Wish
+abbrev pub wish_of : ℕ → TrialClient → Wish
 wish_of drawn held =
     if nat_eq drawn 0 then mint
     else (if nat_eq drawn 1 then bake
@@ -48,7 +48,7 @@ wish_of drawn held =
     else buy_or_mint held.is_full (oldest held.coins)))
 
 -- what is held after the request of this number
-abbrev pub holding_after : ℕ → Wish → Holding → Holding
+abbrev pub holding_after : ℕ → Wish → TrialClient → TrialClient
 holding_after number mint held = record held { coins = held.coins ++ number ∷ [] }
 holding_after number bake held = record held { candies = held.candies ++ number ∷ [] }
 holding_after number (restock candy) held = record held { candies = drop 1 held.candies; is_full = true }
@@ -88,7 +88,7 @@ abbrev pub drawn_after : ℕ → ℕ
 drawn_after drawn = (5 * drawn + 3) % 256
 
 -- so many requests from this number on, where that was drawn last and this is held
-abbrev pub requests_from : ℕ → ℕ → ℕ → Holding → List Request
+abbrev pub requests_from : ℕ → ℕ → ℕ → TrialClient → List Request
 requests_from zero number drawn held = []
 requests_from (suc left) number drawn held =
     request_of number (wish_of (drawn_after drawn / 64) held)

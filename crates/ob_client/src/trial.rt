@@ -12,9 +12,10 @@ use serde_json::{Map, Value, json, put};
 use std::alloc::{AllocError, Global};
 use std::collections::VecDeque;
 
-// What the client holds of what it got, by the numbers of the requests that gave it, the oldest first; and whether the machine is full.
+// The one client of a trial: what it holds of what it got, by the numbers of the requests that gave it, the oldest first; and whether the
+// machine is full.
 #[derive(Drop)]
-struct Holding {
+struct TrialClient {
     coins: VecDeque<u32>,
     candies: VecDeque<u32>,
     is_full: bool,
@@ -63,11 +64,11 @@ fn buy_or_mint(is_full: bool, coin: Option<u32>) -> Wish
     }
 }
 
-impl Holding {
-    fn new(alloc: Global) -> Holding
+impl TrialClient {
+    fn new(alloc: Global) -> TrialClient
         ensures { holding_view result ≡ nothing_held }
     {
-        Holding {
+        TrialClient {
             coins: VecDeque::new(alloc),
             candies: VecDeque::new(alloc),
             is_full: false,
@@ -255,7 +256,7 @@ pub fn trial_lines(alloc: Global, length: u32) -> Result<Vec<u8>, Memory>
 {
     let mut lines = Vec::new(alloc);
     put_line(&mut lines, alloc, &first_value(alloc)?)?;
-    let mut held = Holding::new(alloc);
+    let mut held = TrialClient::new(alloc);
     let mut drawn = length % 256;
     for done in 0..length {
         drawn = drawn_after(drawn);

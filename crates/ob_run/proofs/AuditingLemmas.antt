@@ -6,7 +6,6 @@ use Rattle.std.proofs.Math.Path.{fun_ext}
 use Rattle.ob_code.specs.declared.image.Image.{Image}
 use Rattle.ob_code_table.specs.ImageTables.{table_of_image}
 use Rattle.ob_disk_spec.specs.Disk.{DiskView, Reads}
-use Rattle.ob_disk_spec.proofs.Untouched.{untouched_during}
 use Rattle.ob_emit_laws.specs.Names.{without_names}
 use Rattle.ob_emit_laws.proofs.Tables.{tables_agree}
 use Rattle.ob_emit_spec.specs.EmittedImages.{image_of}
@@ -27,8 +26,10 @@ use Rattle.ob_sound_code.specs.SoundCode.{IsSoundCode}
 use Rattle.ob_store.specs.Opening.{FaultsAs}
 use Rattle.ob_store.specs.Reading.{IsContentOf, ReadsStore, NeedsNoArea}
 use Rattle.ob_store.specs.Stores.{program_of}
+use Rattle.ob_store.specs.Unchanged.{KeepsBytes}
 use Rattle.ob_store.specs.declared.error.OpenError.{OpenError}
 use Rattle.ob_store.specs.declared.error.OpenError.TheVariants as of_store
+use Rattle.ob_store.proofs.Unchanged.{kept_untouched}
 use Rattle.ob_store_spec.specs.Stores.{StoreProgram, StoreState}
 use Rattle.ob_store_table_laws.proofs.Unnamed.{said_of}
 use Rattle.ob_table.specs.Tables.{ClassTable}
@@ -40,7 +41,7 @@ use Rattle.ob_run.specs.Attaching.{AttachesAtMostOnce, UsesDisk, KeepsUnlessServ
 use Rattle.ob_run.specs.Auditing.{AreNumbersOf, IsAudit, CountsAs, IsCountOf, TellsNumbers, unopened_by}
 use Rattle.ob_run.specs.Faults.{CountsFault}
 use Rattle.ob_run.specs.Openings.{OpensNot, StaysFor}
-use Rattle.ob_run.specs.Outside.{OutsideView, devices, KeepsBytes}
+use Rattle.ob_run.specs.Outside.{OutsideView, devices}
 use Rattle.ob_run.specs.Sessions.{area_bytes, program_with, BeginsAt, ServesProgram}
 use Rattle.ob_run.specs.Statuses.{Treats, TreatsText, MeetsStatus}
 use Rattle.ob_run.specs.TextRead.{asked_with}
@@ -199,19 +200,19 @@ module _ (asked : Asked) (text : List ℕ) (old new : Devices) (is : IsAudit ask
   stayed h = stays_kept asked.command (program_with h.of.table h.of.bodies) old.disk new.disk is h.stays
 
   treated_keeps : (exit : Exit) → Treats asked text old new exit → KeepsBytes old.disk new.disk
-  treated_keeps Done (inl h) = untouched_during old.disk new.disk h.disk
+  treated_keeps Done (inl h) = kept_untouched old.disk new.disk h.disk
   treated_keeps Done (inr (inl h)) = h.disk
   treated_keeps Done (inr (inr h)) = no_session _ h
-  treated_keeps Refused h = untouched_during old.disk new.disk h.disk
+  treated_keeps Refused h = kept_untouched old.disk new.disk h.disk
   treated_keeps ReadFault h = no_session _ h
-  treated_keeps WriteFault (inl h) = untouched_during old.disk new.disk h.disk
+  treated_keeps WriteFault (inl h) = kept_untouched old.disk new.disk h.disk
   treated_keeps WriteFault (inr (inl h)) = h.disk
   treated_keeps WriteFault (inr (inr (inl h))) = h.disk
   treated_keeps WriteFault (inr (inr (inr h))) = no_session _ h
   treated_keeps DiskFault (inl h) = stayed h.0
   treated_keeps DiskFault (inr h) = no_session _ h
   treated_keeps StoreRefused h = h.disk
-  treated_keeps Memory (inl h) = untouched_during old.disk new.disk h.disk
+  treated_keeps Memory (inl h) = kept_untouched old.disk new.disk h.disk
   treated_keeps Memory (inr (inl h)) = stayed h
   treated_keeps Memory (inr (inr h)) = no_session _ h
   treated_keeps Long h = no_session _ h
@@ -227,25 +228,25 @@ module _ (words : Option Asked) (old new : OutsideView) (asked : Asked) (is : wo
   audit_keeps : (exit : Exit) → MeetsStatus words old new exit → KeepsBytes old.disk new.disk
   audit_keeps Done h = text_keeps Done h
   audit_keeps Refused h = text_keeps Refused h
-  audit_keeps Usage h = untouched_during old.disk new.disk h.kept.disk
+  audit_keeps Usage h = kept_untouched old.disk new.disk h.kept.disk
   audit_keeps ReadFault h = text_keeps ReadFault h
   audit_keeps WriteFault h = text_keeps WriteFault h
   audit_keeps DiskFault h = text_keeps DiskFault h
   audit_keeps StoreRefused h = text_keeps StoreRefused h
-  audit_keeps FileFault h = untouched_during old.disk new.disk h.kept.disk
-  audit_keeps Memory (inl h) = untouched_during old.disk new.disk h.disk
+  audit_keeps FileFault h = kept_untouched old.disk new.disk h.kept.disk
+  audit_keeps Memory (inl h) = kept_untouched old.disk new.disk h.disk
   audit_keeps Memory (inr h) = text_keeps Memory h
   audit_keeps Long h = text_keeps Long h
 
 kept_by : (command : Command) (old new : DiskView) → AttachesAtMostOnce (store_of command) old new → (IsAudit command → KeepsBytes old new) → KeepsUnlessServed command old new
-kept_by (check name) old new untouched audits = untouched_during old new untouched
-kept_by (serve name) old new untouched audits = untouched_during old new untouched
+kept_by (check name) old new untouched audits = kept_untouched old new untouched
+kept_by (serve name) old new untouched audits = kept_untouched old new untouched
 kept_by (serve_stored name store) old new untouched audits = tt
 kept_by (audit name store) old new untouched audits = audits tt
-kept_by (trial length) old new untouched audits = untouched_during old new untouched
+kept_by (trial length) old new untouched audits = kept_untouched old new untouched
 
 -- only a session over a store on a disk changes it
 pub keeps_unless_served : (words : Option Asked) (old new : OutsideView) (exit : Exit) → MeetsStatus words old new exit → UsesDisk (store_asked words) old.disk new.disk → KeepsUnlessAsked words old.disk new.disk
-keeps_unless_served None old new exit status uses = untouched_during old.disk new.disk uses.attaches
+keeps_unless_served None old new exit status uses = kept_untouched old.disk new.disk uses.attaches
 keeps_unless_served (Some asked) old new exit status uses =
     kept_by asked.command old.disk new.disk uses.attaches (λ audits. audit_keeps (Some asked) old new asked refl audits exit status)

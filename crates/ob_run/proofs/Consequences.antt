@@ -3,13 +3,13 @@
 use Rattle.std.specs.Prelude.{⊤}
 use Rattle.std.proofs.Common.{◌≡◌, ◌⊎◌, inl, inr, ℕ, List, Option, Some, subst}
 use Rattle.ob_disk_spec.specs.Disk.{DiskView}
-use Rattle.ob_disk_spec.specs.Durable.{May, During}
-use Rattle.ob_disk_spec.proofs.Untouched.{untouched_during}
 use Rattle.ob_io.specs.Causes.{Rose}
 use Rattle.ob_io.specs.Told.{Gives}
 use Rattle.ob_table.specs.Tables.{ClassTable}
 use Rattle.ob_silica.specs.Terms.{SilicaBody}
 use Rattle.ob_front.specs.Programs.{IsProgram}
+use Rattle.ob_store.specs.Unchanged.{KeepsBytes}
+use Rattle.ob_store.proofs.Unchanged.{kept_untouched}
 use Rattle.ob_store_spec.specs.Stores.{StoreState}
 use Rattle.ob_serve.specs.Served.{Devices, IsToldAs, SpeaksOf}
 use Rattle.ob_serve.specs.Session.{items_from}
@@ -102,7 +102,7 @@ pub record SurvivesSession (asked : Asked) (old new : OutsideView) : Type 0 wher
 -- No session was begun, so no input was taken. The disk is as it was handed in, or its store wasn't opened.
 pub record SurvivesUnopened (asked : Asked) (old new : OutsideView) : Type 0 where
   pub input : new.input ≡ old.input
-  pub disk : During old.disk new.disk (May old.disk) ⊎ ((text : List ℕ) × IsToldAs (text_in old.files (file_of asked.command)) text × OpensNot asked.command text (devices old) (devices new))
+  pub disk : KeepsBytes old.disk new.disk ⊎ ((text : List ℕ) × IsToldAs (text_in old.files (file_of asked.command)) text × OpensNot asked.command text (devices old) (devices new))
 
 module _ (asked : Asked) (old new : OutsideView) (text : List ℕ) (told : IsToldAs (text_in old.files (file_of asked.command)) text) where
   session_survives : (served : Served) → ServesProgram asked text (devices old) (devices new) served → SurvivesSession asked old new
@@ -126,19 +126,19 @@ module _ (asked : Asked) (old new : OutsideView) (text : List ℕ) (told : IsTol
   unopened_survives h = record { input = h.input; disk = inr (text, told, h) }
 
   text_survives : (exit : Exit) → Treats asked text (devices old) (devices new) exit → SurvivesUnopened asked old new ⊎ SurvivesSession asked old new
-  text_survives Done (inl h) = inl (record { input = h.input; disk = inl (untouched_during _ _ h.disk) })
+  text_survives Done (inl h) = inl (record { input = h.input; disk = inl (kept_untouched _ _ h.disk) })
   text_survives Done (inr (inl h)) = inl (record { input = h.input; disk = inl h.disk })
   text_survives Done (inr (inr h)) = inr (session_survives ended.Done h)
-  text_survives Refused h = inl (record { input = h.input; disk = inl (untouched_during _ _ h.disk) })
+  text_survives Refused h = inl (record { input = h.input; disk = inl (kept_untouched _ _ h.disk) })
   text_survives ReadFault h = inr (session_survives ended.ReadFault h)
-  text_survives WriteFault (inl h) = inl (record { input = h.input; disk = inl (untouched_during _ _ h.disk) })
+  text_survives WriteFault (inl h) = inl (record { input = h.input; disk = inl (kept_untouched _ _ h.disk) })
   text_survives WriteFault (inr (inl h)) = inl (record { input = h.input; disk = inl h.disk })
   text_survives WriteFault (inr (inr (inl h))) = inl (record { input = h.input; disk = inl h.disk })
   text_survives WriteFault (inr (inr (inr h))) = inr (session_survives ended.WriteFault h)
   text_survives DiskFault (inl h) = inl (unopened_survives h.0)
   text_survives DiskFault (inr h) = inr (session_survives ended.DiskFault h)
   text_survives StoreRefused h = inl (record { input = h.input; disk = inl h.disk })
-  text_survives Memory (inl h) = inl (record { input = h.input; disk = inl (untouched_during _ _ h.disk) })
+  text_survives Memory (inl h) = inl (record { input = h.input; disk = inl (kept_untouched _ _ h.disk) })
   text_survives Memory (inr (inl h)) = inl (unopened_survives h)
   text_survives Memory (inr (inr h)) = inr (session_survives ended.Memory h)
   text_survives Long h = inr (session_survives ended.Long h)
@@ -160,8 +160,8 @@ module _ (words : Option Asked) (old new : OutsideView) (asked : Asked) (is : wo
   no_reply_is_lost WriteFault h = file_survives WriteFault h
   no_reply_is_lost DiskFault h = file_survives DiskFault h
   no_reply_is_lost StoreRefused h = file_survives StoreRefused h
-  no_reply_is_lost FileFault h = inl (record { input = h.kept.input; disk = inl (untouched_during _ _ h.kept.disk) })
-  no_reply_is_lost Memory (inl h) = inl (record { input = h.input; disk = inl (untouched_during _ _ h.disk) })
+  no_reply_is_lost FileFault h = inl (record { input = h.kept.input; disk = inl (kept_untouched _ _ h.kept.disk) })
+  no_reply_is_lost Memory (inl h) = inl (record { input = h.input; disk = inl (kept_untouched _ _ h.disk) })
   no_reply_is_lost Memory (inr h) = file_survives Memory h
   no_reply_is_lost Long h = file_survives Long h
 

@@ -8,8 +8,8 @@ use Rattle.ob_wire.specs.declared.reply.Answer.TheVariants as answer
 use Rattle.ob_wire.specs.declared.reply.Answer.{Answer}
 use Rattle.ob_wire.specs.declared.reply.Reply.{Reply}
 use Rattle.ob_run.specs.declared.counts.Counts.{Counts}
-use Rattle.ob_run.specs.declared.kinds.Kind.{Kind}
-use Rattle.ob_run.specs.declared.kinds.Kind.TheVariants.{Done, Aborted, Refused}
+use Rattle.ob_run.specs.declared.kinds.ReplyKind.{ReplyKind}
+use Rattle.ob_run.specs.declared.kinds.ReplyKind.TheVariants.{Done, Aborted, Refused}
 use Rattle.ob_serve.specs.Kept.{says_done}
 use Rattle.ob_run.specs.Counting.{is_aborted, is_refused}
 use Rattle.ob_run.specs.Kinds.{kind_of, lines_of_replies, count_answers, AreWithin, counts_with, CountsReplies, IsCountedSoFar}
@@ -75,7 +75,7 @@ splits rest r left end is found = record {
     at = same_end end (length line) (position is_newline rest) found (ap (position is_newline) whole ∙ found_at is_newline line (lines_of_replies left) 10 (one_line (reply_json r)) refl)
 
 -- one line more is counted
-pub one_more_line : (rs : List Reply) (rest : List ℕ) (end : ℕ) (kind : Kind) (counts : Counts) → IsCountedSoFar rs rest counts → position is_newline rest ≡ Some end
+pub one_more_line : (rs : List Reply) (rest : List ℕ) (end : ℕ) (kind : ReplyKind) (counts : Counts) → IsCountedSoFar rs rest counts → position is_newline rest ≡ Some end
     → ((reply : Reply) → take end rest ≡ compact_text (reply_json reply) → kind ≡ kind_of reply.answer)
     → IsCountedSoFar rs (drop (end + 1) rest) (counts_with kind counts)
 one_more_line rs rest end kind counts so_far found tells = by so_far.left so_far.rest_is so_far.lines so_far.ok so_far.aborted so_far.refused
@@ -86,7 +86,7 @@ one_more_line rs rest end kind counts so_far found tells = by so_far.left so_far
     by [] is lines ok aborted refused = absurd (let none : position is_newline rest ≡ None = rw is refl in cc)
     by (r ∷ left) is lines ok aborted refused =
         let two = splits rest r left end is found in
-        subst (λ (k : Kind). IsCountedSoFar rs (drop (end + 1) rest) (counts_with k counts)) (sym (tells r two.line))
+        subst (λ (k : ReplyKind). IsCountedSoFar rs (drop (end + 1) rest) (counts_with k counts)) (sym (tells r two.line))
         (let adds = adds_one r.answer counts in record {
           left = left;
           rest_is = two.more;
@@ -120,27 +120,27 @@ all_counted rs rest counts objects handles so_far none objects_is handles_is = b
 
 -- ---- one step of the loop
 
-with_lines : (kind : Kind) (counts : Counts) → (counts_with kind counts).lines ≡ counts.lines + 1
+with_lines : (kind : ReplyKind) (counts : Counts) → (counts_with kind counts).lines ≡ counts.lines + 1
 with_lines Done counts = refl
 with_lines Aborted counts = refl
 with_lines Refused counts = refl
 
-with_objects : (kind : Kind) (counts : Counts) → (counts_with kind counts).objects ≡ counts.objects
+with_objects : (kind : ReplyKind) (counts : Counts) → (counts_with kind counts).objects ≡ counts.objects
 with_objects Done counts = refl
 with_objects Aborted counts = refl
 with_objects Refused counts = refl
 
-with_handles : (kind : Kind) (counts : Counts) → (counts_with kind counts).handles ≡ counts.handles
+with_handles : (kind : ReplyKind) (counts : Counts) → (counts_with kind counts).handles ≡ counts.handles
 with_handles Done counts = refl
 with_handles Aborted counts = refl
 with_handles Refused counts = refl
 
-with_within : (kind : Kind) (counts : Counts) → AreWithin counts → AreWithin (counts_with kind counts)
+with_within : (kind : ReplyKind) (counts : Counts) → AreWithin counts → AreWithin (counts_with kind counts)
 with_within Done counts h = record { ok = omega (arith, h.ok); aborted = omega (arith, h.aborted); refused = omega (arith, h.refused) }
 with_within Aborted counts h = record { ok = omega (arith, h.ok); aborted = omega (arith, h.aborted); refused = omega (arith, h.refused) }
 with_within Refused counts h = record { ok = omega (arith, h.ok); aborted = omega (arith, h.aborted); refused = omega (arith, h.refused) }
 
-module _ (kind : Kind) (old new : Counts) (is : new ≡ counts_with kind old) where
+module _ (kind : ReplyKind) (old new : Counts) (is : new ≡ counts_with kind old) where
   pub keeps_within : AreWithin old → AreWithin new
   keeps_within h = subst AreWithin (sym is) (with_within kind old h)
 

@@ -15,7 +15,7 @@ use Rattle.ob_wire.specs.declared.reply.Reply.{Reply}
 use Rattle.ob_wire.specs.declared.refusal.Refusal.{Refusal}
 use Rattle.ob_wire.specs.Refusals.{number_of}
 use Rattle.ob_run.specs.Kinds.{kind_of}
-use Rattle.ob_run.specs.declared.kinds.Kind.TheVariants.{Done, Aborted, Refused}
+use Rattle.ob_run.specs.declared.kinds.ReplyKind.TheVariants.{Done, Aborted, Refused}
 use Rattle.ob_run.proofs.CompactText.{fails_high, none_in_number, found_at, nth_after}
 
 abbrev pub is_comma : ℕ → Bool

@@ -6,7 +6,7 @@ use Rattle.std.proofs.lemmas.Fmt.{length-decimal-le}
 use Rattle.json.specs.Print.{escape_letter, escape_byte, escape}
 use Rattle.serde_json.proofs.OnLiterals.{serde_json_on_literals}
 use Rattle.ob_client.specs.RequestLines.{request_line}
-use Rattle.ob_client.specs.Trials.{Holding, Wish, mint, bake, restock, buy, nothing_held, restock_or_bake, buy_or_mint, wish_of, oldest, holding_after, request_of, first_request, drawn_after, requests_from, lines_of_requests, trial_lines}
+use Rattle.ob_client.specs.Trials.{TrialClient, Wish, mint, bake, restock, buy, nothing_held, restock_or_bake, buy_or_mint, wish_of, oldest, holding_after, request_of, first_request, drawn_after, requests_from, lines_of_requests, trial_lines}
 
 escaped_short : (l m n x : ℕ) (a b : Bool) → length (cond a (92 ∷ l ∷ []) (cond b (92 ∷ 117 ∷ 48 ∷ 48 ∷ m ∷ n ∷ []) (x ∷ []))) ≤ 6
 escaped_short l m n x true b = omega arith
@@ -43,7 +43,7 @@ abbrev pub AreShort : List ℕ → Type 0
 AreShort [] = ⊤
 AreShort (n ∷ ns) = IsShort n × AreShort ns
 
-pub record IsShortHolding (held : Holding) : Type 0 where
+pub record IsShortClient (held : TrialClient) : Type 0 where
   pub coins : AreShort held.coins
   pub candies : AreShort held.candies
 
@@ -67,7 +67,7 @@ buy_short true (n ∷ ns) all = all.0
 buy_short false [] all = tt
 buy_short false (n ∷ ns) all = tt
 
-wish_short : (drawn : ℕ) (held : Holding) → IsShortHolding held → IsShortWish (wish_of drawn held)
+wish_short : (drawn : ℕ) (held : TrialClient) → IsShortClient held → IsShortWish (wish_of drawn held)
 wish_short drawn held short = by (nat_eq drawn 0) (nat_eq drawn 1) (nat_eq drawn 2)
   where
     by : (a b c : Bool) → IsShortWish (if a then mint else (if b then bake else (if c then restock_or_bake held.is_full (oldest held.candies) else buy_or_mint held.is_full (oldest held.coins))))
@@ -76,7 +76,7 @@ wish_short drawn held short = by (nat_eq drawn 0) (nat_eq drawn 1) (nat_eq drawn
     by false false true = restock_short held.is_full held.candies short.candies
     by false false false = buy_short held.is_full held.coins short.coins
 
-held_short : (number : ℕ) (wish : Wish) (held : Holding) → IsShort number → IsShortHolding held → IsShortHolding (holding_after number wish held)
+held_short : (number : ℕ) (wish : Wish) (held : TrialClient) → IsShort number → IsShortClient held → IsShortClient (holding_after number wish held)
 held_short number mint held is short = record { coins = one_more held.coins number short.coins is; candies = short.candies }
 held_short number bake held is short = record { coins = short.coins; candies = one_more held.candies number short.candies is }
 held_short number (restock candy) held is short = record { coins = short.coins; candies = one_less held.candies short.candies }
@@ -95,7 +95,7 @@ first_short : length (request_line first_request) ≤ 254
 unfolding serde_json_on_literals
 first_short = grind (arith, length-append, short_number 0 (omega arith))
 
-rest_short : (left number drawn : ℕ) (held : Holding) → number + left ≤ 2 ^ 32 → IsShortHolding held
+rest_short : (left number drawn : ℕ) (held : TrialClient) → number + left ≤ 2 ^ 32 → IsShortClient held
     → length (lines_of_requests (requests_from left number drawn held)) ≤ 255 * left
 rest_short zero number drawn held le short = omega arith
 rest_short (suc left) number drawn held le short =

@@ -23,13 +23,14 @@ use Rattle.ob_serve.specs.Served.{Devices}
 use Rattle.ob_serve.proofs.Tables.{refused_by_source}
 use Rattle.ob_store.specs.Opening.{IsBlankStart}
 use Rattle.ob_store.specs.Stores.{program_of, area_of_store, kept_of, state_of, StandsOn}
+use Rattle.ob_store.specs.Unchanged.{KeepsBytes}
 use Rattle.ob_store.specs.declared.store.Store.{Store}
+use Rattle.ob_store.proofs.Unchanged.{kept_quiet, kept_then}
 use Rattle.ob_store_spec.specs.Stores.{StoreProgram, StoreRefusal, IsStoreOf, IsRefused}
 use Rattle.ob_words.specs.Asked.{Command, check, serve, serve_stored, audit, trial}
 use Rattle.ob_run.specs.Attaching.{store_of}
 use Rattle.ob_run.specs.Auditing.{CountsAs}
 use Rattle.ob_run.specs.Openings.{KeepsStoreOf, OpensNot, IsOpenedAs, StaysUnopened, StaysFor, OpensAs}
-use Rattle.ob_run.specs.Outside.{KeepsBytes}
 use Rattle.ob_run.specs.Sessions.{area_bytes, program_with}
 use Rattle.ob_run.specs.Statuses.{Treats}
 use Rattle.ob_run.specs.TextRead.{TellsRefusal, asked_with}
@@ -46,7 +47,7 @@ room_for code need light is lacks = omega (arith, light, is, lacks)
 -- a store that was opened on a disk
 pub opened_at : (old new : DiskView) (code : Image) (store : Store) → area_of_store store ≡ Some area_bytes → IsStoreAtRest (table_of_image code) (content_of (kept_of store))
     → ((c : List ℕ) → Reads old c → IsStoreOf (program_of code) area_bytes c (state_of store)) → StandsOn (program_of code) store new
-    → IsBlankStart (program_of code) (state_of store) ⊎ During old new (May old)
+    → IsBlankStart (program_of code) (state_of store) ⊎ KeepsBytes old new
     → During old new (λ c. May old c ⊎ IsBlankOrBegunDisk area_bytes (image.bytes code) c) → IsOpenedAs (program_of code) old new store
 opened_at old new code store area rest was stands still crash = record { area = area; at_rest = rest; was = was; stands = stands; since = since still }
   where
@@ -64,9 +65,9 @@ opened_at old new code store area rest was stands still crash = record { area = 
       serial = start.serial;
     })
 
-    since : IsBlankStart (program_of code) (state_of store) ⊎ During old new (May old) → LeavesOnly old new (λ c. May old c ⊎ Is c)
+    since : IsBlankStart (program_of code) (state_of store) ⊎ KeepsBytes old new → LeavesOnly old new (λ c. May old c ⊎ Is c)
     since (inl start) = weaker old new _ _ crash.since (λ c either. ⊎_elim (λ may. inl may) (λ stood. inr (begun_as start c stood)) either)
-    since (inr kept) = weaker old new _ _ kept.since (λ c may. inl may)
+    since (inr kept) = weaker old new _ _ kept.crash.since (λ c may. inl may)
 
 -- a disk that was taken reads as before, and no byte of it changed
 module _ (old mid new : DiskView) (same : mid.content ≡ old.content) (quiet : IsQuiet old mid) where
@@ -85,13 +86,13 @@ module _ (old mid new : DiskView) (same : mid.content ≡ old.content) (quiet : 
       then old mid new (λ c. May old c ⊎ P c) (weaker old mid (May old) (λ c. May old c ⊎ P c) taken (λ c may. inl may))
       (weaker mid new (λ c. May mid c ⊎ P c) (λ c. May old c ⊎ P c) left (or_before P))
 
-  kept_since : During mid new (May mid) → During old new (May old)
-  kept_since kept =
-      let to = during_to mid new (May mid) (May old) kept may_before in record { since = then old mid new (May old) taken to.since; now = to.now }
+  kept_since : KeepsBytes mid new → KeepsBytes old new
+  kept_since kept = kept_then old mid new (kept_quiet old mid quiet) kept
 
   stays_since : (program : StoreProgram) → StaysUnopened program mid new → StaysUnopened program old new
   stays_since program stays = record {
     quiet = λ c reads some. kept_since (stays.quiet c (same ∙ reads) some);
+    content = λ c reads. ⊎_elim (λ was. inl (quiet.content c was)) (λ begun. inr begun) (stays.content c reads);
     disk = record {
       since = leaves_since (λ c. IsBlankOrBegunDisk area_bytes program.image c) stays.disk.since;
       now = throughout_to new (λ c. May mid c ⊎ IsBlankOrBegunDisk area_bytes program.image c) (λ c. May old c ⊎ IsBlankOrBegunDisk area_bytes program.image c) stays.disk.now
@@ -122,18 +123,12 @@ module _ (old mid new : DiskView) (same : mid.content ≡ old.content) (quiet : 
   counts_since program calm (Err unopened.DiskFault) failed = (kept_since failed.0, subst (λ (n : ℕ). Rose n new.faults) calm failed.1)
   counts_since program calm (Err unopened.Memory) kept = kept_since kept
 
--- a call that changes no byte
-pub kept_quiet : (old new : DiskView) → IsQuiet old new → KeepsBytes old new
-kept_quiet old new quiet = record {
-  since = call old new (May old) quiet.time (λ c left. inr (quiet.images c left));
-  now = record { content = λ c reads. inl (quiet.content c reads); images = λ c left. inr (quiet.images c left) };
-}
-
 -- a disk of which no byte changed
 kept_stays : (program : StoreProgram) (old new : DiskView) → KeepsBytes old new → StaysUnopened program old new
 kept_stays program old new kept = record {
   quiet = λ c reads some. kept;
-  disk = during_to old new (May old) _ kept (λ c may. inl may);
+  content = λ c reads. inl (kept.content c reads);
+  disk = during_to old new (May old) _ kept.crash (λ c may. inl may);
 }
 
 stays_for : (command : Command) (program : StoreProgram) (old new : DiskView) → KeepsBytes old new → StaysFor command program old new
@@ -162,6 +157,7 @@ module _ (table : ClassTable) (bodies : List SilicaBody) (code : Image) (compile
     of = kept_store (serve_stored name file) file refl;
     stays = record {
       quiet = stays.quiet;
+      content = λ c reads. subst (λ (bytes : List ℕ). Reads old.disk c ⊎ IsBlankOrBegunDisk area_bytes bytes c) image_is (stays.content c reads);
       disk = subst (λ (bytes : List ℕ). During old.disk new.disk (λ c. May old.disk c ⊎ IsBlankOrBegunDisk area_bytes bytes c)) image_is stays.disk;
     };
     input = input;
@@ -180,7 +176,7 @@ module _ (table : ClassTable) (bodies : List SilicaBody) (code : Image) (compile
 
   -- what is said of a store that is refused
   pub refused_by_store : (command : Command) (file : List ℕ) (keeps : store_of command ≡ Some file) (old new : Devices) (cause : StoreRefusal) (exit : Exit) → TellsRefusal cause old.output new.output exit
-      → ((c : List ℕ) → Reads old.disk c → IsRefused (program_of code) area_bytes c cause) → During old.disk new.disk (May old.disk) → new.input ≡ old.input
+      → ((c : List ℕ) → Reads old.disk c → IsRefused (program_of code) area_bytes c cause) → KeepsBytes old.disk new.disk → new.input ≡ old.input
       → (fuel lanes slice : ℕ) → Treats (asked_with command fuel lanes slice) text old new exit
   refused_by_store command file keeps old new cause exit tells told kept input fuel lanes slice = by exit tells
     where

@@ -4,8 +4,8 @@ use Rattle.std.specs.Option.{option_and_then}
 use Rattle.ob_disk_spec.specs.Disk.{DiskView}
 use Rattle.ob_disk_spec.specs.Calls.{IsAttached, IsUntouched}
 use Rattle.ob_disk_spec.specs.Durable.{KeepsBehind}
+use Rattle.ob_store.specs.Unchanged.{KeepsBytes}
 use Rattle.ob_words.specs.Asked.{Command, check, serve, serve_stored, audit, trial, Asked}
-use Rattle.ob_run.specs.Outside.{KeepsBytes}
 use Rattle.ob_run.specs.Sessions.{both_areas}
 
 -- the STORE of a command; the others have none

@@ -9,13 +9,13 @@ use Rattle.ob_owners.specs.declared.counts.StoreCounts.{StoreCounts}
 use Rattle.ob_rest_spec.specs.AtRest.{IsStoreAtRest}
 use Rattle.ob_serve.specs.Served.{Devices}
 use Rattle.ob_store.specs.Reading.{IsContentOf}
+use Rattle.ob_store.specs.Unchanged.{KeepsBytes}
 use Rattle.ob_store.specs.declared.error.OpenError.{OpenError}
 use Rattle.ob_store.specs.declared.error.OpenError.TheVariants as of_store
 use Rattle.ob_store_spec.specs.Stores.{StoreProgram, IsRefused}
 use Rattle.ob_table.specs.Tables.{ClassTable}
 use Rattle.ob_words.specs.Asked.{Command, audit}
 use Rattle.ob_run.specs.Openings.{KeepsStoreOf}
-use Rattle.ob_run.specs.Outside.{KeepsBytes}
 use Rattle.ob_run.specs.Sessions.{area_bytes, program_with}
 use Rattle.ob_run.specs.StoreLine.{refusal_view}
 use Rattle.ob_run.specs.TrialLines.{count_line}
@@ -61,7 +61,7 @@ pub record AuditsStore (command : Command) (text : List ℕ) (says : (List ℕ �
 
 -- ---- what counting a store answers; for private clauses
 
--- why a store isn't counted that can't be read
+-- why a store isn't opened, or not counted
 abbrev pub unopened_by : OpenError → Unopened
 unopened_by of_store.NotStore = Refused NotStore
 unopened_by (of_store.Damaged offset) = Refused (Damaged offset)

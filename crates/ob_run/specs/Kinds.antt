@@ -7,11 +7,11 @@ use Rattle.ob_wire.specs.declared.reply.Reply.{Reply}
 use Rattle.ob_serve.specs.Kept.{says_done}
 use Rattle.ob_run.specs.Counting.{is_aborted, is_refused}
 use Rattle.ob_run.specs.declared.counts.Counts.{Counts}
-use Rattle.ob_run.specs.declared.kinds.Kind.{Kind}
-use Rattle.ob_run.specs.declared.kinds.Kind.TheVariants.{Done, Aborted, Refused}
+use Rattle.ob_run.specs.declared.kinds.ReplyKind.{ReplyKind}
+use Rattle.ob_run.specs.declared.kinds.ReplyKind.TheVariants.{Done, Aborted, Refused}
 
 -- the kind of an answer
-abbrev pub kind_of : Answer → Kind
+abbrev pub kind_of : Answer → ReplyKind
 kind_of (answer.Ok outcome) = Done
 kind_of (answer.Abort cause) = Aborted
 kind_of (answer.Refused refusal) = Refused
@@ -32,7 +32,7 @@ pub record AreWithin (counts : Counts) : Type 0 where
   pub refused : counts.refused ≤ counts.lines
 
 -- the numbers with one line more, which has a reply of this kind
-abbrev pub counts_with : Kind → Counts → Counts
+abbrev pub counts_with : ReplyKind → Counts → Counts
 counts_with Done counts = record counts { lines = counts.lines + 1; ok = counts.ok + 1 }
 counts_with Aborted counts = record counts { lines = counts.lines + 1; aborted = counts.aborted + 1 }
 counts_with Refused counts = record counts { lines = counts.lines + 1; refused = counts.refused + 1 }

@@ -10,13 +10,13 @@ use Rattle.ob_io.specs.Causes.{Rose}
 use Rattle.ob_io.specs.Views.{SinkView}
 use Rattle.ob_rest_spec.specs.AtRest.{IsStoreAtRest}
 use Rattle.ob_store.specs.Stores.{area_of_store, kept_of, state_of, StandsOn}
+use Rattle.ob_store.specs.Unchanged.{KeepsBytes}
 use Rattle.ob_store.specs.declared.store.Store.{Store}
 use Rattle.ob_journal_spec.specs.Disks.{IsBlankDisk, IsBlankOrBegunDisk}
 use Rattle.ob_store_spec.specs.Stores.{StoreProgram, StoreRefusal, IsStoreOf, IsRefused}
 use Rattle.ob_serve.specs.Served.{Devices}
 use Rattle.ob_words.specs.Asked.{Command, audit}
 use Rattle.ob_run.specs.Attaching.{store_of}
-use Rattle.ob_run.specs.Outside.{KeepsBytes}
 use Rattle.ob_run.specs.Sessions.{area_bytes, program_with}
 use Rattle.ob_run.specs.StoreLine.{store_line, refusal_view}
 use Rattle.ob_run.specs.declared.serving.Unopened.{Unopened}
@@ -44,10 +44,11 @@ pub record RefusesStore (command : Command) (text : List ℕ) (says : (List ℕ 
   pub input : after.input ≡ before.input
   pub disk : KeepsBytes before.disk after.disk
 
--- A store of this program wasn't opened. A disk that isn't blank is as it was handed in; of a blank one each image is as it was, or blank, or
--- begun.
+-- A store of this program wasn't opened. A disk that isn't blank is as it was handed in; of a blank one what a read gives, and each image, is
+-- as it was, or blank, or begun.
 pub record StaysUnopened (program : StoreProgram) (before after : DiskView) : Type 0 where
   pub quiet : (c : List ℕ) → Reads before c → ¬ (IsBlankDisk area_bytes c) → KeepsBytes before after
+  pub content : (c : List ℕ) → Reads after c → Reads before c ⊎ IsBlankOrBegunDisk area_bytes program.image c
   pub disk : During before after (λ c. May before c ⊎ IsBlankOrBegunDisk area_bytes program.image c)
 
 -- What is left of a disk whose store a command didn't open: an audit changes no byte of it.

@@ -1,7 +1,6 @@
 -- All that a run meets outside itself.
 use Rattle.std.specs.Prelude.{◌≡◌}
 use Rattle.ob_disk_spec.specs.Disk.{DiskView}
-use Rattle.ob_disk_spec.specs.Durable.{May, During}
 use Rattle.ob_disk_spec.specs.Calls.{IsUntouched}
 use Rattle.ob_io.specs.Views.{SourceView, SinkView, FilesView}
 use Rattle.ob_serve.specs.Served.{Devices}
@@ -21,10 +20,6 @@ told files input output disk o = record { files = files o.files; input = input o
 -- the input, the output and the disk
 abbrev pub devices : OutsideView → Devices
 devices o = record { input = o.input; output = o.output; disk = o.disk }
-
--- no byte of a disk changed, a crash at any moment counted in
-abbrev pub KeepsBytes : DiskView → DiskView → Type 0
-KeepsBytes before after = During before after (May before)
 
 -- the input is as it was, and so is the output, and no call of the disk was made
 pub record KeepsDevices (before after : Devices) : Type 0 where

@@ -4,11 +4,10 @@ ghost use Rattle.ob_code.specs.Images.{image};
 ghost use Rattle.ob_code_table.specs.ImageTables.{table_of_image};
 ghost use Rattle.ob_disk_spec.specs.Durable.{KeepsBehind};
 ghost use Rattle.ob_heap.specs.Contents.{content_of};
-ghost use Rattle.ob_store.specs.Reading.{NeedsNoArea};
 ghost use Rattle.ob_store.specs.Stores.{program_of};
 ghost use Rattle.ob_words.specs.Asked.{audit};
 ghost use Rattle.ob_run.specs.Attaching.{UsesDisk};
-ghost use Rattle.ob_run.specs.Auditing.{CountsAs, IsCountOf, TellsNumbers, audit_text, unopened_by};
+ghost use Rattle.ob_run.specs.Auditing.{CountsAs, IsCountOf, TellsNumbers, audit_text};
 ghost use Rattle.ob_run.specs.Faults.{CountsFault, EndsAtFault};
 ghost use Rattle.ob_run.specs.Outside.{told, devices};
 ghost use Rattle.ob_run.specs.Sessions.{both_areas};
@@ -18,8 +17,7 @@ ghost use Rattle.ob_run.specs.TextRead.{asked_with};
 use crate::examined::Examined;
 use crate::exit::Exit;
 use crate::outside::Outside;
-use crate::refusal::StoreRefusal;
-use crate::serving::{AREA, Unopened};
+use crate::serving::{AREA, Unopened, unopened_by};
 use crate::telling::{put_count, refuse, refuse_store};
 use ob_base::Memory;
 use ob_code::Image;
@@ -28,25 +26,9 @@ use ob_front::compile;
 use ob_heap::Content;
 use ob_io::{Files, Sink, Source, write_all};
 use ob_owners::{StoreCounts, count_store};
-use ob_store::{OpenError, read_store};
+use ob_store::read_store;
 use ob_verify::Verified;
 use std::alloc::Global;
-
-// Why a store isn't counted that can't be read.
-fn unopened_by(error: OpenError) -> Unopened
-    requires { NeedsNoArea (Err error) }
-    ensures { result ≡ unopened_by error }
-{
-    match error {
-        OpenError::NotStore => Unopened::Refused(StoreRefusal::NotStore),
-        OpenError::Damaged(offset) => Unopened::Refused(StoreRefusal::Damaged(offset)),
-        OpenError::OtherProgram(offset) => Unopened::Refused(StoreRefusal::OtherProgram(offset)),
-        OpenError::NotAtRest(object) => Unopened::Refused(StoreRefusal::NotAtRest(object)),
-        OpenError::Room(_, _) => unreachable!(),
-        OpenError::DiskFault => Unopened::DiskFault,
-        OpenError::Memory => Unopened::Memory,
-    }
-}
 
 // Counts what a store holds.
 fn count_content(alloc: Global, code: &Image, content: &Content) -> Result<StoreCounts, Unopened>

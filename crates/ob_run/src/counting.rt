@@ -4,7 +4,7 @@ ghost use Rattle.ob_wire.specs.declared.reply.Reply.{Reply};
 ghost use Rattle.ob_run.specs.Kinds.{lines_of_replies, AreWithin, counts_with, CountsReplies};
 
 use crate::counts::Counts;
-use crate::kinds::{Kind, find_byte, kind_of_line};
+use crate::kinds::{ReplyKind, find_byte, kind_of_line};
 
 // The bytes from a place on.
 fn bytes_from(bytes: &[u8], at: usize) -> &[u8]
@@ -15,16 +15,16 @@ fn bytes_from(bytes: &[u8], at: usize) -> &[u8]
 }
 
 // Counts one line more, with a reply of this kind.
-fn count_line(counts: &mut Counts, kind: Kind)
+fn count_line(counts: &mut Counts, kind: ReplyKind)
     requires within { AreWithin counts.old }
     requires few { counts.old.lines < 2 ^ 63 }
     ensures { counts.new ≡ counts_with kind counts.old }
 {
     counts.lines += 1;
     match kind {
-        Kind::Done => counts.ok += 1,
-        Kind::Aborted => counts.aborted += 1,
-        Kind::Refused => counts.refused += 1,
+        ReplyKind::Done => counts.ok += 1,
+        ReplyKind::Aborted => counts.aborted += 1,
+        ReplyKind::Refused => counts.refused += 1,
     }
 }
 

@@ -6,7 +6,8 @@ use std::io::ErrorKind;
 /// How a run ended.
 #[derive(Clone, Copy, PartialEq, Eq, Debug)]
 pub enum Exit {
-    /// The input was read to its end, and every line was answered; or the text is accepted, and its line was written.
+    /// The input was read to its end, and every line was answered; or it was written that the text is accepted, or the numbers of a store
+    /// or of a trial.
     Done,
     /// The program's text has a fault; its line was written.
     Refused,

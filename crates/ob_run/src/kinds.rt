@@ -8,7 +8,7 @@ ghost use Rattle.ob_run.specs.Kinds.{kind_of};
 
 /// The kind of an answer.
 #[derive(Clone, Copy)]
-pub enum Kind {
+pub enum ReplyKind {
     /// The request was done.
     Done,
     /// It was begun and undone.
@@ -34,17 +34,17 @@ fn has_byte(bytes: &[u8], at: usize, wanted: u8) -> bool
 
 /// The kind of the reply whose line this is, without its newline. The first key of an abort is `abort`. The first of the others is `id`,
 /// which has no comma, and the next is `ok` or `refused`.
-pub fn kind_of_line(line: &[u8]) -> Kind
+pub fn kind_of_line(line: &[u8]) -> ReplyKind
     ensures { (reply : Reply) → line.now ≡ compact_text (reply_json reply) → result ≡ kind_of reply.answer }
 {
     if has_byte(line, 2, b'a') {
-        return Kind::Aborted;
+        return ReplyKind::Aborted;
     }
     let Some(comma) = find_byte(line, b',') else {
-        return Kind::Refused;
+        return ReplyKind::Refused;
     };
     if has_byte(line, comma + 2, b'o') {
-        return Kind::Done;
+        return ReplyKind::Done;
     }
-    Kind::Refused
+    ReplyKind::Refused
 }

@@ -4,9 +4,11 @@ ghost use Rattle.ob_code.specs.Images.{image};
 ghost use Rattle.ob_disk_spec.specs.Calls.{IsAttached};
 ghost use Rattle.ob_disk_spec.specs.Durable.{KeepsBehind};
 ghost use Rattle.ob_emit_spec.specs.Weights.{most_weight};
+ghost use Rattle.ob_store.specs.Reading.{NeedsNoArea};
 ghost use Rattle.ob_store.specs.Stores.{program_of};
 ghost use Rattle.ob_words.specs.Asked.{serve, serve_stored};
 ghost use Rattle.ob_run.specs.Attaching.{UsesDisk};
+ghost use Rattle.ob_run.specs.Auditing.{unopened_by};
 ghost use Rattle.ob_run.specs.Faults.{CountsFault, EndsAtFault};
 ghost use Rattle.ob_run.specs.Openings.{OpensAs};
 ghost use Rattle.ob_run.specs.Outside.{told, devices};
@@ -56,6 +58,22 @@ pub(crate) enum Unopened {
     Memory,
 }
 
+/// Why a store isn't opened, or not counted. An image has at most 16 MiB, and an area 64 MiB, so there is always room.
+pub(crate) fn unopened_by(error: OpenError) -> Unopened
+    requires { NeedsNoArea (Err error) }
+    ensures { result ≡ unopened_by error }
+{
+    match error {
+        OpenError::NotStore => Unopened::Refused(StoreRefusal::NotStore),
+        OpenError::Damaged(offset) => Unopened::Refused(StoreRefusal::Damaged(offset)),
+        OpenError::OtherProgram(offset) => Unopened::Refused(StoreRefusal::OtherProgram(offset)),
+        OpenError::NotAtRest(object) => Unopened::Refused(StoreRefusal::NotAtRest(object)),
+        OpenError::Room(_, _) => unreachable!(),
+        OpenError::DiskFault => Unopened::DiskFault,
+        OpenError::Memory => Unopened::Memory,
+    }
+}
+
 // Opens the store of a program on a disk that was taken.
 fn open_taken<D: Disk>(alloc: Global, disk: &mut D, code: &Verified) -> Result<Store, Unopened>
     requires fits { image.fits code.now }
@@ -67,18 +85,7 @@ fn open_taken<D: Disk>(alloc: Global, disk: &mut D, code: &Verified) -> Result<S
 {
     match Store::open_store(alloc, disk, code, AREA) {
         Ok(store) => Ok(store),
-        Err(OpenError::NotStore) => Err(Unopened::Refused(StoreRefusal::NotStore)),
-        Err(OpenError::Damaged(offset)) => Err(Unopened::Refused(StoreRefusal::Damaged(offset))),
-        Err(OpenError::OtherProgram(offset)) => {
-            Err(Unopened::Refused(StoreRefusal::OtherProgram(offset)))
-        }
-        Err(OpenError::NotAtRest(object)) => {
-            Err(Unopened::Refused(StoreRefusal::NotAtRest(object)))
-        }
-        // An image has at most 16 MiB, and an area 64 MiB.
-        Err(OpenError::Room(_, _)) => unreachable!(),
-        Err(OpenError::DiskFault) => Err(Unopened::DiskFault),
-        Err(OpenError::Memory) => Err(Unopened::Memory),
+        Err(error) => Err(unopened_by(error)),
     }
 }
 

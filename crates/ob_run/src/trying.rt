@@ -16,7 +16,7 @@ use ob_base::Memory;
 use ob_front::compile;
 use ob_io::{Sink, write_all};
 use ob_serve::Limits;
-use ob_words::{DEFAULT_FUEL, DEFAULT_SLICE};
+use ob_words::{DEFAULT_FUEL, DEFAULT_LANES, DEFAULT_SLICE};
 use std::alloc::Global;
 
 // The six numbers, each on a line.
@@ -65,7 +65,7 @@ pub fn try_text<K: Sink>(
     };
     let limits = Limits {
         fuel: DEFAULT_FUEL,
-        lanes: 1,
+        lanes: DEFAULT_LANES as u8,
         slice: DEFAULT_SLICE,
     };
     match hold_trial(alloc, &program.code, limits, AREA, length) {

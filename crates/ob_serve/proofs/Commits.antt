@@ -7,7 +7,7 @@ use Rattle.ob_disk_spec.proofs.Untouched.{untouched_none}
 use Rattle.ob_heap.specs.declared.delta.Delta.{Delta}
 use Rattle.ob_io.specs.Views.{SinkView}
 use Rattle.ob_lanes.specs.Standing.{requests_kept}
-use Rattle.ob_lanes.specs.declared.entry.Entry.{Entry}
+use Rattle.ob_lanes.specs.declared.batch.BatchRequest.{BatchRequest}
 use Rattle.ob_lanes.specs.declared.lanes.Lanes.{Lanes}
 use Rattle.ob_serve.specs.Batches.{enough_turns}
 use Rattle.ob_wire.specs.Meanings.{request_of}
@@ -103,6 +103,6 @@ fewer_turns b n store lanes entries far same = omega (arith, far.few, same)
 -- as many turns are enough as what lanes keep tells
 pub entries_enough : (b : BatchOn) (store : Store) (lanes : Lanes) → AreAsFar b 0 store lanes → enough_turns b.code b.limits (length lanes.entries.items) ≡ turns_of b
 entries_enough b store lanes far =
-    let kept : length (requests_kept lanes) ≡ length lanes.entries.items = length-map lanes.entries.items (λ (e : Entry). e.request) in
+    let kept : length (requests_kept lanes) ≡ length lanes.entries.items = length-map lanes.entries.items (λ (e : BatchRequest). e.request) in
     let asked : length (asked_in b) ≡ length b.requests = length-map b.requests request_of in
     ap (enough_turns b.code b.limits) (sym kept ∙ ap length far.requests ∙ sym asked)

@@ -57,5 +57,5 @@ module _ (service : Service) (s : StoreState) where
 pub some_requests : (count : ℕ) → IsTrue (is_batch_size count) → 0 < count
 some_requests count fits = let is = (both_true (nat_le 1 count) (nat_le count most_requests) fits).0 in grind (arith, nat_tests)
 
-pub few_requests : (count : ℕ) → IsTrue (is_batch_size count) → count ≤ 64
+pub few_requests : (count : ℕ) → IsTrue (is_batch_size count) → count ≤ most_requests
 few_requests count fits = let is = (both_true (nat_le 1 count) (nat_le count most_requests) fits).1 in grind (arith, nat_tests)

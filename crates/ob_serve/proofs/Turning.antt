@@ -5,7 +5,7 @@ use Rattle.std.proofs.lemmas.List.{length-map, length-replicate}
 use Rattle.std.proofs.lemmas.Option.{slice_get-map}
 use Rattle.ob_code.specs.declared.image.Image.{Image}
 use Rattle.ob_code_table.specs.ImageTables.{table_of_image}
-use Rattle.ob_exec.specs.declared.runs.Ended.TheVariants.{Yes}
+use Rattle.ob_exec.specs.declared.runs.SliceOutcome.TheVariants.{Ended}
 use Rattle.ob_exec_handles.specs.Coming.{ComesTo, LeadsTo}
 use Rattle.ob_base.specs.Limits.{most_handles}
 use Rattle.ob_heap.specs.Contents.{Stored, content_of, named_of}
@@ -26,7 +26,7 @@ use Rattle.ob_lanes_laws.specs.Turns.{turned, next_lane, is_answered, are_done_f
 use Rattle.ob_lanes_laws.specs.Requests.{Answer}
 use Rattle.ob_lanes.specs.Seen.{IsSeenAs}
 use Rattle.ob_lanes.specs.Standing.{State, BusyLane, StandFor, NoneHasEnded, EndsAlone, LaneTells, Tells, CanTurn, Turned, rules_on, Commits, committed_by, in_order, requests_kept}
-use Rattle.ob_lanes.specs.declared.entry.Entry.{Entry}
+use Rattle.ob_lanes.specs.declared.batch.BatchRequest.{BatchRequest}
 use Rattle.ob_lanes.specs.declared.lanes.Lanes as lanes_here
 use Rattle.ob_lanes.specs.declared.lanes.Turn.{Turn}
 use Rattle.ob_lanes.proofs.Commits.{committer}
@@ -150,7 +150,7 @@ module _ (b : BatchOn) (can : CanBeAnswered b) (n : ℕ) (store : Store) where
         (turns_are_seen (stores b) (λ c d. true) b.code b.limits.fuel (asked_in b) old.slice old.next (round_after b n).lanes far.state far.seen))
 
     same_requests : requests_kept new ≡ b.requests
-    same_requests = ap (λ es. map (λ (e : Entry). e.request) es.items) entries ∙ far.requests
+    same_requests = ap (λ es. map (λ (e : BatchRequest). e.request) es.items) entries ∙ far.requests
 
     stays : NoneHasEnded after → (round_after b (suc n)).lanes ≡ round_turned b n
     stays going = no_commit b can n (λ busy is. going (round_after b n).next busy (ap (λ ls. slice_get ls (round_after b n).next) turn_seen.lanes ∙ is))
@@ -193,7 +193,7 @@ module _ (b : BatchOn) (can : CanBeAnswered b) (n : ℕ) (store : Store) where
     is_last going all = last_items b can (suc n) (answered_so going ∙ all) ∙ no_items going
 
     -- a commit is waited for
-    pub waits_with : (reply : Reply) (delta : Delta) → LaneTells (kept_of store) old.entries.items (slice_get after.lanes old.next) (Yes reply delta) → EndsAlone old.next after → new.next ≡ old.next
+    pub waits_with : (reply : Reply) (delta : Delta) → LaneTells (kept_of store) old.entries.items (slice_get after.lanes old.next) (Ended reply delta) → EndsAlone old.next after → new.next ≡ old.next
         → WaitsWith b n store new reply delta
     waits_with reply delta tells alone next =
         let busy = busy_of (slice_get after.lanes old.next) refl tells in
@@ -207,8 +207,8 @@ module _ (b : BatchOn) (can : CanBeAnswered b) (n : ℕ) (store : Store) where
             lane_is = ap (slice_get after.lanes) next ∙ busy.1;
             ended = subst (λ k. EndsAlone k after) (sym next) alone;
           };
-          tells = subst (λ es. LaneTells (kept_of store) es (slice_get after.lanes new.next) (Yes reply delta)) (sym (ap (λ es. es.items) entries))
-              (subst (λ k. LaneTells (kept_of store) old.entries.items (slice_get after.lanes k) (Yes reply delta)) (sym next) tells);
+          tells = subst (λ es. LaneTells (kept_of store) es (slice_get after.lanes new.next) (Ended reply delta)) (sym (ap (λ es. es.items) entries))
+              (subst (λ k. LaneTells (kept_of store) old.entries.items (slice_get after.lanes k) (Ended reply delta)) (sym next) tells);
           requests = same_requests;
           next = next ∙ far.next;
           slice = did.slice ∙ far.slice;
@@ -216,10 +216,10 @@ module _ (b : BatchOn) (can : CanBeAnswered b) (n : ℕ) (store : Store) where
           area = far.area;
         }
       where
-        busy_of : (x : Option (Option BusyLane)) → slice_get after.lanes old.next ≡ x → LaneTells (kept_of store) old.entries.items (slice_get after.lanes old.next) (Yes reply delta)
+        busy_of : (x : Option (Option BusyLane)) → slice_get after.lanes old.next ≡ x → LaneTells (kept_of store) old.entries.items (slice_get after.lanes old.next) (Ended reply delta)
             → (busy : BusyLane) × (slice_get after.lanes old.next ≡ Some (Some busy))
-        busy_of None is tells = absurd (subst (λ x. LaneTells (kept_of store) old.entries.items x (Yes reply delta)) is tells)
-        busy_of (Some None) is tells = absurd (subst (λ x. LaneTells (kept_of store) old.entries.items x (Yes reply delta)) is tells)
+        busy_of None is tells = absurd (subst (λ x. LaneTells (kept_of store) old.entries.items x (Ended reply delta)) is tells)
+        busy_of (Some None) is tells = absurd (subst (λ x. LaneTells (kept_of store) old.entries.items x (Ended reply delta)) is tells)
         busy_of (Some (Some busy)) is tells = (busy, is)
 
   module _ (lanes : lanes_here.Lanes) (reply : Reply) (delta : Delta) (w : WaitsWith b n store lanes reply delta) where
@@ -240,7 +240,7 @@ module _ (b : BatchOn) (can : CanBeAnswered b) (n : ℕ) (store : Store) where
           (machine_invocation b.code (content_of (kept_of store)) (request_of request) b.limits.fuel) ∷ []
       pub few : suc n ≤ turns_of b
 
-    tells_answer : (base : Stored) (id : ℤ) (run : Run) → Tells base id run (Yes reply delta)
+    tells_answer : (base : Stored) (id : ℤ) (run : Run) → Tells base id run (Ended reply delta)
         → (a : plain.Answer) × (run ≡ answered a) × (reply.id ≡ Some id) × ComesTo (invoked (invoked_by (content_of base) a)) base reply.answer delta
     tells_answer base id (answered a) tells = (a, refl, tells.0, tells.1)
     tells_answer base id (opened q) tells = absurd tells
@@ -257,8 +257,8 @@ module _ (b : BatchOn) (can : CanBeAnswered b) (n : ℕ) (store : Store) where
         let at : slice_get entries busy.number ≡ Some entry = ap (slice_get entries) (sym it.number) ∙ it.entry_is in
         let r = entry.request in
         let stands : slice_get b.requests busy.number ≡ Some r =
-        ap (λ rs. slice_get rs busy.number) (sym w.requests) ∙ slice_get-map (λ (e : Entry). e.request) entries busy.number ∙ ap (option_map (λ (e : Entry). e.request)) at in
-        let tells = tells_answer base r.id busy.run (subst (λ x. LaneTells base entries x (Yes reply delta)) w.waits.lane_is w.tells entry at) in
+        ap (λ rs. slice_get rs busy.number) (sym w.requests) ∙ slice_get-map (λ (e : BatchRequest). e.request) entries busy.number ∙ ap (option_map (λ (e : BatchRequest). e.request)) at in
+        let tells = tells_answer base r.id busy.run (subst (λ x. LaneTells base entries x (Ended reply delta)) w.waits.lane_is w.tells entry at) in
         let alone : ComesAlone (content_of base) (comes_here r) (answered tells.0) =
         subst (ComesAlone (content_of base) (comes_here r)) (sym it.run ∙ tells.1) (slices_come_to b.code b.limits.fuel (content_of base) (request_of r) (in_order busy.given) can.ahead) in
         let here : slice_get (round_turned b n).lanes (round_after b n).next ≡ Some (Some busy) =

@@ -10,7 +10,7 @@ use Rattle.ob_lanes_laws.specs.Requests.{Answer}
 use Rattle.ob_lanes_laws.specs.Schedule as schedule
 use Rattle.ob_lanes_laws.specs.Turns.{Round, turned}
 use Rattle.ob_lanes.specs.Seen.{IsSeenAs}
-use Rattle.ob_exec.specs.declared.runs.Ended.TheVariants.{Yes}
+use Rattle.ob_exec.specs.declared.runs.SliceOutcome.TheVariants.{Ended}
 use Rattle.ob_lanes.specs.Standing.{State, StandFor, NoneHasEnded, LaneTells, requests_kept}
 use Rattle.ob_lanes.specs.Standing as of_lanes
 use Rattle.ob_lanes.specs.declared.lanes.Lanes.{Lanes}
@@ -98,7 +98,7 @@ pub record WaitsWith (b : BatchOn) (turns : ℕ) (store : Store) (lanes : Lanes)
   pub state : State
   pub seen : IsSeenAs (session_stores (program_of b.code) b.area) (round_turned b turns) state
   pub waits : of_lanes.Waits b.code b.limits.fuel (asked_in b) (kept_of store) lanes state
-  pub tells : LaneTells (kept_of store) lanes.entries.items (slice_get state.lanes lanes.next) (Yes reply delta)
+  pub tells : LaneTells (kept_of store) lanes.entries.items (slice_get state.lanes lanes.next) (Ended reply delta)
   pub requests : requests_kept lanes ≡ b.requests
   pub next : lanes.next ≡ (round_after b turns).next
   pub slice : lanes.slice ≡ b.limits.slice

@@ -12,6 +12,7 @@ ghost use Rattle.ob_store_spec.specs.Stores.{StoreState};
 ghost use Rattle.ob_store.specs.Stores.{area_of_store, program_of, state_of};
 ghost use Rattle.ob_store.specs.declared.store.Store.{Store as KeptStore};
 ghost use Rattle.ob_wire.specs.Meanings.{request_of};
+ghost use Rattle.ob_wire.specs.Requests.{most_requests};
 ghost use Rattle.ob_wire.specs.declared.reply.Reply.{Reply as WireReply};
 ghost use Rattle.ob_wire.specs.declared.request.Incoming.TheVariants.{Batch};
 ghost use Rattle.ob_wire.specs.declared.request.Request.{Request as Asked};
@@ -42,16 +43,16 @@ use std::sync::ledger::{Blank, Ledger};
 /// The lanes of a batch, none of whose requests is under way.
 pub fn lanes_of(alloc: Global, limits: Limits, batch: Items<Request>) -> Result<Lanes, Memory>
     requires some { 0 < length batch }
-    requires most { length batch ≤ 64 }
+    requires most { length batch ≤ most_requests }
     requires limits { AreLimits limits }
-    requires few { limits.lanes ≤ 8 }
+    requires most_lanes { limits.lanes ≤ 8 }
     ensures stand { IfOk result (λ lanes. (code : Image) (base : Stored) → StandFor code limits.fuel (map request_of batch) base lanes (idle (content_of base) limits.lanes)) }
     ensures requests { IfOk result (λ lanes. requests_kept lanes ≡ batch) }
     ensures next { IfOk result (λ lanes. lanes.next ≡ 0) }
     ensures slice { IfOk result (λ lanes. lanes.slice ≡ limits.slice) }
 {
     let mut lanes = Lanes::new(alloc, limits.lanes, limits.slice)?;
-    lanes.add(alloc, batch)?;
+    lanes.begin_batch(alloc, batch)?;
     Ok(lanes)
 }
 
@@ -97,13 +98,9 @@ fn answer_commit<K: Sink, D: Disk>(
         (record { store = store.old; output = K.view output.old; disk = D.view disk.old })
         (record { store = store.new; output = K.view output.new; disk = D.view disk.new }) lanes.new result }
 {
-    match ready_reply(alloc, code, store, reply, delta) {
-        Ok(ready) => {
-            tell_lanes(alloc, lanes, store, &ready);
-            answer_ready(store, output, disk, ready)
-        }
-        Err(Memory) => Err(Served::Memory),
-    }
+    let ready = ready_reply(alloc, code, store, reply, delta)?;
+    tell_lanes(alloc, lanes, store, &ready);
+    answer_ready(store, output, disk, ready)
 }
 
 /// One turn of a batch: what it has come to is committed and answered. It answers whether nothing is left to do.
@@ -128,16 +125,14 @@ pub fn answer_turn<K: Sink, D: Disk>(
         (record { store = store.old; output = K.view output.old; disk = D.view disk.old })
         (record { store = store.new; output = K.view output.new; disk = D.view disk.new }) lanes.new result }
 {
-    match lanes.turn(alloc, code, names, store.content(), store, limits.fuel) {
-        Ok(Turn::Commit(reply, delta)) => {
-            match answer_commit(alloc, code, store, lanes, reply, delta, output, disk) {
-                Ok(()) => Ok(false),
-                Err(served) => Err(served),
-            }
+    let turn = lanes.turn(alloc, code, names, store.content(), store, limits.fuel)?;
+    match turn {
+        Turn::Commit(reply, delta) => {
+            answer_commit(alloc, code, store, lanes, reply, delta, output, disk)?;
+            Ok(false)
         }
-        Ok(Turn::Going) => Ok(false),
-        Ok(Turn::Done) => Ok(true),
-        Err(Memory) => Err(Served::Memory),
+        Turn::Going => Ok(false),
+        Turn::Done => Ok(true),
     }
 }
 
@@ -168,11 +163,11 @@ fn answer_turns<L: Ledger, K: Sink, D: Disk>(
 {
     let mut turns = Turns::<L>::new(blank);
     'turns: loop {
-        match answer_turn(alloc, code, names, limits, store, lanes, output, disk) {
-            Ok(true) => return Ok(()),
-            Ok(false) => turns.raise(),
-            Err(served) => return Err(served),
+        let is_done = answer_turn(alloc, code, names, limits, store, lanes, output, disk)?;
+        if is_done {
+            return Ok(());
         }
+        turns.raise();
     }
 }
 
@@ -188,22 +183,21 @@ pub fn answer_batch<K: Sink, D: Disk>(
     disk: &mut D,
 ) -> Result<(), Served>
     requires some { 0 < length batch }
-    requires most { length batch ≤ 64 }
+    requires most { length batch ≤ most_requests }
     requires labels { OfEach HasLabels (map request_of batch) }
     requires names { IsNamesOf names.now code.now }
     requires servable { IsServable code.now }
     requires limits { AreLimits limits }
-    requires few { limits.lanes ≤ 8 }
+    requires most_lanes { limits.lanes ≤ 8 }
     requires serving { IsServing code.now (record { store = store.old; output = K.view output.old; disk = D.view disk.old }) }
     ensures { Answers code.now
         (items_of_asked (by_machine code.now limits (area_of_store store.old)) (state_of store.old) (Ok (Batch batch)))
         (record { store = store.old; output = K.view output.old; disk = D.view disk.old })
         (record { store = store.new; output = K.view output.new; disk = D.view disk.new }) result }
 {
+    // `image` says that the code is verified.
     let _image = code.image();
-    let Ok(mut lanes) = lanes_of(alloc, limits, batch) else {
-        return Err(Served::Memory);
-    };
+    let mut lanes = lanes_of(alloc, limits, batch)?;
     let blank = Blank::new(1);
     answer_turns::<Brand, K, D>(
         alloc, code, names, limits, store, &mut lanes, output, disk, blank,

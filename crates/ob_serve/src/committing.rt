@@ -1,5 +1,5 @@
 //! What was made ready is kept.
-ghost use Rattle.std.specs.Prelude.{◌≡◌, ◌≢◌, ◌⊎◌, ◌≤◌, ◌+◌, ℕ, None, Some, OnOk, IsErrOf};
+ghost use Rattle.std.specs.Prelude.{◌≡◌, ◌≢◌, ◌⊎◌, ◌≤◌, ◌+◌, ℕ, None, Some, OnOk, OnErr, IsErrOf};
 ghost use Rattle.ob_disk_spec.specs.Calls.{IsUntouched};
 ghost use Rattle.ob_disk_spec.specs.Durable.{During, KeepsBehind};
 ghost use Rattle.ob_heap.specs.Contents.{content_of};
@@ -13,17 +13,18 @@ ghost use Rattle.ob_serve.specs.Stops.{LeadsOn};
 use ob_disk::Disk;
 use ob_store::{Prepared, Store};
 
-/// Why nothing was kept.
+/// Why what was made ready isn't known to be kept.
 #[derive(Clone, Copy)]
 pub enum KeepError {
-    /// The disk failed.
+    /// The disk failed: it and each image of it represent the store before or after.
     DiskFault,
-    /// Memory ran out, before the disk was touched.
+    /// Memory ran out, before the disk was touched: nothing is kept.
     Memory,
 }
 
-/// Commits what was made ready, if there is anything. All memory is taken before the disk is touched. Where the disk fails, it and each
-/// image of it represent the store before or after. Over a store in memory no call of the disk is made. What follows its areas stays.
+/// Commits what was made ready, if there is anything. All memory is taken before the disk is touched. Over a store in memory no call of
+/// the disk is made. What follows its areas stays. What the store holds stays
+/// at an `Err`.
 pub fn keep<D: Disk>(
     store: &mut Store,
     disk: &mut D,
@@ -32,6 +33,7 @@ pub fn keep<D: Disk>(
     requires { (program : StoreProgram) × (after : StoreState) × LeadsOn program store.old after prepared }
     ensures kept { OnOk result ((program : StoreProgram) (after : StoreState) → LeadsOn program store.old after prepared →
         state_of store.new ≡ after) }
+    ensures err { OnErr result (state_of store.new ≡ state_of store.old) }
     ensures stands { OnOk result ((program : StoreProgram) (after : StoreState) → LeadsOn program store.old after prepared →
         StandsOn program store.old (D.view disk.old) → StandsOn program store.new (D.view disk.new)) }
     ensures crash { (program : StoreProgram) (after : StoreState) → LeadsOn program store.old after prepared →

@@ -24,7 +24,7 @@ use crate::batches::answer_batch;
 use crate::committing::{KeepError, keep};
 use crate::limits::Limits;
 use crate::serving::Served;
-use ob_base::{Failed, Memory};
+use ob_base::Failed;
 use ob_disk::Disk;
 use ob_exec_entries::Names;
 use ob_io::{Sink, write_all};
@@ -93,10 +93,8 @@ fn answer_refusal<K: Sink, D: Disk>(
         (record { store = store.old; output = K.view output.old; disk = D.view disk.old })
         (record { store = store.new; output = K.view output.new; disk = D.view disk.new }) result }
 {
-    match refuse(alloc, refusal) {
-        Ok(ready) => answer_ready(store, output, disk, ready),
-        Err(Memory) => Err(Served::Memory),
-    }
+    let ready = refuse(alloc, refusal)?;
+    answer_ready(store, output, disk, ready)
 }
 
 // A request alone is answered.
@@ -119,10 +117,8 @@ fn answer_request<K: Sink, D: Disk>(
         (record { store = store.old; output = K.view output.old; disk = D.view disk.old })
         (record { store = store.new; output = K.view output.new; disk = D.view disk.new }) result }
 {
-    match ready_request(alloc, code, names, limits.fuel, store, request) {
-        Ok(ready) => answer_ready(store, output, disk, ready),
-        Err(Memory) => Err(Served::Memory),
-    }
+    let ready = ready_request(alloc, code, names, limits.fuel, store, request)?;
+    answer_ready(store, output, disk, ready)
 }
 
 // A line is answered that isn't too long.
@@ -139,7 +135,7 @@ fn answer_text<K: Sink, D: Disk>(
     requires names { IsNamesOf names.now code.now }
     requires servable { IsServable code.now }
     requires limits { AreLimits limits }
-    requires few { limits.lanes ≤ 8 }
+    requires most_lanes { limits.lanes ≤ 8 }
     requires serving { IsServing code.now (record { store = store.old; output = K.view output.old; disk = D.view disk.old }) }
     ensures { Answers code.now
         (items_of_asked (by_machine code.now limits (area_of_store store.old)) (state_of store.old) (asked_by_value (value_of line.now)))
@@ -178,7 +174,7 @@ pub fn answer_line<K: Sink, D: Disk>(
     requires names { IsNamesOf names.now code.now }
     requires servable { IsServable code.now }
     requires limits { AreLimits limits }
-    requires few { limits.lanes ≤ 8 }
+    requires most_lanes { limits.lanes ≤ 8 }
     requires serving { IsServing code.now (record { store = store.old; output = K.view output.old; disk = D.view disk.old }) }
     ensures { (full : List ℕ) → IsFull is_long line.now full → Answers code.now
         (items_shown (items_of_line (by_machine code.now limits (area_of_store store.old))) (state_of store.old) full)

@@ -43,6 +43,17 @@ pub enum Served {
     Long,
 }
 
+impl From<Memory> for Served {
+    ghost use Rattle.std.specs.Prelude.{◌≡◌};
+    ghost use Rattle.ob_serve.specs.declared.serving.Served.TheVariants.{Memory};
+
+    ghost from_gives = { λ _ e. e ≡ Memory };
+
+    fn from(_: Memory) -> Served {
+        Served::Memory
+    }
+}
+
 // The next line, and whether it is too long; or how the session ends.
 fn next_line<S: Source>(
     lines: &mut Lines,
@@ -82,7 +93,7 @@ fn serve_lines<S: Source, K: Sink, D: Disk>(
 ) -> Served
     requires servable { IsServable code.now }
     requires limits { AreLimits limits }
-    requires few_lanes { limits.lanes ≤ 8 }
+    requires most_lanes { limits.lanes ≤ 8 }
     requires at_rest { IsStoreAtRest (table_of_image code.now) (content_of (kept_of store.old)) }
     requires stands { StandsOn (program_of code.now) store.old (D.view disk.old) }
     ensures ends { Ends (items_of_line (by_machine code.now limits (area_of_store store.old)))
@@ -95,7 +106,7 @@ fn serve_lines<S: Source, K: Sink, D: Disk>(
     ensures behind { (size : ℕ) → area_of_store store.old ≡ Some size →
         KeepsBehind (size + size) (D.view disk.old) (D.view disk.new) }
     ensures attaches { (D.view disk.new).attaches ≡ (D.view disk.old).attaches }
-    ensures few { TakesAtMost (S.view input.old) (S.view input.new) most_taken }
+    ensures most_bytes { TakesAtMost (S.view input.old) (S.view input.new) most_taken }
     ensures later_read { (S.view input.old).faults ≤ (S.view input.new).faults }
     ensures later_write { (K.view output.old).faults ≤ (K.view output.new).faults }
     ensures later_disk { (D.view disk.old).faults ≤ (D.view disk.new).faults }
@@ -171,7 +182,7 @@ pub fn serve<S: Source, K: Sink, D: Disk>(
     ensures attaches { (D.view disk.new).attaches ≡ (D.view disk.old).attaches }
 
     // However it ends, at most 2^40 bytes of input were taken.
-    ensures few { TakesAtMost (S.view input.old) (S.view input.new) most_taken }
+    ensures most_bytes { TakesAtMost (S.view input.old) (S.view input.new) most_taken }
 
     // No count of faults falls.
     ensures later_read { (S.view input.old).faults ≤ (S.view input.new).faults }

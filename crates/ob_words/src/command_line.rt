@@ -22,7 +22,8 @@ Commands:
   audit P STORE  Count what that store holds, and write nothing to it
   trial N        Answer the N + 1 request lines of the trial of length N, from 0 to 20000
 
-Requests are read from standard input, a JSON object a line; replies are written to standard output.";
+Each line of standard input is a request, a JSON object, or a batch, an array of 1 to 64 requests.
+Replies are written to standard output, each on a line of its own.";
 
 // An option with one value.
 fn option<'a>(alloc: Global, name: &'a str, help: &'a str) -> Arg<'a>

@@ -14,5 +14,6 @@ pub use help::help_text;
 pub use laws::{other_words_are_none, words_are_worked_out};
 pub use number::{
     DEFAULT_FUEL, DEFAULT_LANES, DEFAULT_SLICE, LONGEST_TRIAL, MOST_FUEL, MOST_LANES, MOST_SLICE,
+    number_in,
 };
 pub use reading::parse_words;

@@ -1,8 +1,9 @@
 use Rattle.ob_disk_spec.proofs.Behind.{behind_quiet}
 use Rattle.ob_store.specs.Stores.{program_of}
+use Rattle.ob_store.proofs.Unchanged.{kept_quiet}
 use Rattle.ob_run.specs.Sessions.{both_areas}
 use Rattle.ob_run.proofs.AttachingLemmas.{uses_attached, uses_failed}
-use Rattle.ob_run.proofs.OpeningLemmas.{counts_since, kept_quiet}
+use Rattle.ob_run.proofs.OpeningLemmas.{counts_since}
 use Rattle.ob_run.proofs.auditing.count_named.Goals as goal
 
 pub returns-in-Ok-clause-counts : goal.returns-in-Ok-clause-counts

@@ -47,7 +47,7 @@ returns-clause-treats g c = λ name.
     (serves_in_memory program.table bodies program.code c.in-Ok.ensures.compiled c.in-Ok.ensures.code sound c.args.text.now c.in-Ok.ensures.program c.args.limits (record { lanes = omega (arith, c.requires.lanes); slice = omega (arith, c.requires.slice) }) name old new c.serve-served.result c.in-Ok-blank.store
     c.in-Ok-blank.ensures.content c.in-Ok-blank.ensures.memory (begins_in_memory c.in-Ok-blank.store c.in-Ok-blank.ensures.content c.in-Ok-blank.ensures.memory)
     (c.serve-served.ensures.ends (record { table = program.table; bodies = bodies }) (record { sound = sound; emitted = c.in-Ok.ensures.code; table = c.in-Ok.ensures.compiled.lowered.table }))
-    (c.serve-served.ensures.untouched c.in-Ok-blank.ensures.memory) (c.serve-served.ensures.sure c.in-Ok-blank.ensures.memory) c.serve-served.ensures.few))
+    (c.serve-served.ensures.untouched c.in-Ok-blank.ensures.memory) (c.serve-served.ensures.sure c.in-Ok-blank.ensures.memory) c.serve-served.ensures.most_bytes))
 
 -- no call of the disk is made
 pub returns-in-Err-clause-disk : goal.returns-in-Err-clause-disk

@@ -73,7 +73,7 @@ returns-clause-treats g c = λ file.
     (serves_stored program.table bodies program.code c.in-Ok.ensures.compiled c.in-Ok.ensures.code sound c.args.text.now c.in-Ok.ensures.program c.args.limits (record { lanes = omega (arith, c.requires.lanes); slice = omega (arith, c.requires.slice) }) file c.args.name.now old mid new c.serve-served.result
     c.in-Ok-open_named.store refl refl c.open_named.ensures.faults.later c.in-Ok-open_named.ensures.opens
     (c.serve-served.ensures.ends (record { table = program.table; bodies = bodies }) (record { sound = sound; emitted = c.in-Ok.ensures.code; table = c.in-Ok.ensures.compiled.lowered.table }))
-    c.serve-served.ensures.few))
+    c.serve-served.ensures.most_bytes))
 
 -- ---- the calls of the disk
 

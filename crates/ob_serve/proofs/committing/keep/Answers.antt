@@ -1,7 +1,8 @@
-use Rattle.std.proofs.Common.{inl, ◌+◌, ◌∙◌, ◌≡◌, sym, true≢false, Result, Ok, Err, false, OnOk}
+use Rattle.std.proofs.Common.{inl, ◌+◌, ◌∙◌, ◌≡◌, sym, ap, true≢false, Result, Ok, Err, true, false, OnOk, OnErr}
 use Rattle.std.specs.Prelude.{is_err}
 use Rattle.ob_disk_spec.proofs.Behind.{behind_none}
 use Rattle.ob_disk_spec.proofs.Untouched.{untouched_none}
+use Rattle.ob_store.specs.Stores.{state_of}
 use Rattle.ob_store.proofs.Same.{same_stands}
 use Rattle.ob_serve.proofs.Committed.{quiet_crash, some_leads, crash_leaves, ready_again}
 use Rattle.ob_serve.proofs.committing.keep.Goals as goal
@@ -74,3 +75,17 @@ returns-clause-stands g c = λ program after leads stands.
     let ready = ready_again program after c.args.store.now c.reserve.new.self c.in-Some.prepared some c.reserve.ensures.state c.reserve.ensures.area c.reserve.ensures.content prepared in
     let same = same_stands program c.args.store.now c.reserve.new.self (g.D.Disk.view c.args.disk.now) c.reserve.ensures.same (c.reserve.ensures.owners program stands.owners) stands in
     at_ok c.commit.result (sym c.is_err-2.ensures.value ∙ c.if-is_err-2.false) c.commit.ensures.stands program ready same
+
+-- what is left at an error
+
+-- what holds on Err holds where there is an error
+at_err : {T E P : Type 0} (r : Result T E) → is_err r ≡ true → OnErr r P → P
+at_err (Ok x) is holds = absurd (true≢false (sym is))
+at_err (Err e) is holds = holds
+
+pub returns-then-is_err-clause-err : goal.returns-then-is_err-clause-err
+returns-then-is_err-clause-err g c = c.reserve.ensures.state
+
+pub returns-then-is_err-2-clause-err : goal.returns-then-is_err-2-clause-err
+returns-then-is_err-2-clause-err g c =
+    ap state_of (at_err c.commit.result (sym c.is_err-2.ensures.value ∙ c.if-is_err-2.true) c.commit.ensures.err) ∙ c.reserve.ensures.state

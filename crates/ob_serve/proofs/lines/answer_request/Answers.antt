@@ -1,3 +1,4 @@
+use Rattle.std.proofs.lemmas.Result.{err_from_is_err_and}
 use Rattle.ob_disk_spec.proofs.Untouched.{untouched_none}
 use Rattle.ob_heap.specs.Contents.{content_of}
 use Rattle.ob_store.specs.Stores.{program_of, area_of_store, kept_of, state_of}
@@ -27,16 +28,17 @@ ready_request-requires-clause-rests g c =
 
 pub answer_ready-requires : goal.answer_ready-requires
 answer_ready-requires g c =
-    (c.args.code.now, request_item (by_machine c.args.code.now c.args.limits (area_of_store c.args.store.now)) (state_of c.args.store.now) c.args.request.now, c.in-Ok.ensures)
+    (c.args.code.now, request_item (by_machine c.args.code.now c.args.limits (area_of_store c.args.store.now)) (state_of c.args.store.now) c.args.request.now, c.in_ok-ready.ensures)
 
-pub returns-in-Ok : goal.returns-in-Ok
-returns-in-Ok g c =
+pub returns : goal.returns
+returns g c =
     c.answer_ready.ensures c.args.code.now (request_item (by_machine c.args.code.now c.args.limits (area_of_store c.args.store.now)) (state_of c.args.store.now) c.args.request.now)
-    c.in-Ok.ensures c.requires.serving
+    c.in_ok-ready.ensures c.requires.serving
     (invoked_rests c.args.code.now (area_of_store c.args.store.now) (state_of c.args.store.now) c.args.request.now.id _ c.requires.serving.at_rest
     (c.requires.servable.sound.rests (content_of (kept_of c.args.store.now)) (request_of c.args.request.now) c.args.limits.fuel c.requires.serving.at_rest c.requires.labels))
 
-pub returns-in-Err : goal.returns-in-Err
-returns-in-Err g c =
-    memory_out c.args.code.now c.args.store.now (g.K.Sink.view c.args.output.now) (g.D.Disk.view c.args.disk.now) c.requires.serving _ c.args.store.now (g.D.Disk.view c.args.disk.now)
-    (untouched_none (g.D.Disk.view c.args.disk.now)) (stays_none (area_of_store c.args.store.now) (g.D.Disk.view c.args.disk.now))
+pub returns-in_err-ready : goal.returns-in_err-ready
+returns-in_err-ready g c =
+    let failed = err_from_is_err_and c.from_residual.result c.from_residual.ensures.1 in
+    rw (failed.1, failed.2) (memory_out c.args.code.now c.args.store.now (g.K.Sink.view c.args.output.now) (g.D.Disk.view c.args.disk.now) c.requires.serving _ c.args.store.now (g.D.Disk.view c.args.disk.now)
+    (untouched_none (g.D.Disk.view c.args.disk.now)) (stays_none (area_of_store c.args.store.now) (g.D.Disk.view c.args.disk.now)))

@@ -51,8 +51,8 @@ returns-in-Err-clause-ends g c =
     (reader c.lines.lines (g.S.Source.view c.lines.input)) (reader c.next_line.new.lines (g.S.Source.view c.next_line.new.input))
     inv.read inv.ends c.in-Err.ensures.err (omega (arith, c.lines.invariant.calm_read)) refl refl (more_taken _ _ _ _ _ inv.drawn c.next_line.ensures.taken) inv.answered
 
-pub returns-in-Err-clause-few : goal.returns-in-Err-clause-few
-returns-in-Err-clause-few g c = few_taken _ _ _ (more_taken _ _ _ _ _ c.lines.invariant.drawn c.next_line.ensures.taken) c.next_line.ensures.bound
+pub returns-in-Err-clause-most_bytes : goal.returns-in-Err-clause-most_bytes
+returns-in-Err-clause-most_bytes g c = few_taken _ _ _ (more_taken _ _ _ _ _ c.lines.invariant.drawn c.next_line.ensures.taken) c.next_line.ensures.bound
 
 pub returns-in-Err-clause-sure : goal.returns-in-Err-clause-sure
 returns-in-Err-clause-sure g c = λ none. no_disk_stop _ _ c.in-Err.served c.in-Err.ensures.err
@@ -171,5 +171,5 @@ returns-in-Err-answer_line-clause-once g c =
     let counts = stop_counts c.in-Err-answer_line.served _ _ stop.cause in
     let calm = c.in-Ok-next_line.ensures.calm (λ e. cc) ∙ inv.calm_read in omega (arith, counts.once, calm)
 
-pub returns-in-Err-answer_line-clause-few : goal.returns-in-Err-answer_line-clause-few
-returns-in-Err-answer_line-clause-few g c = few_taken _ _ _ (more_taken _ _ _ _ _ c.lines.invariant.drawn c.next_line.ensures.taken) c.next_line.ensures.bound
+pub returns-in-Err-answer_line-clause-most_bytes : goal.returns-in-Err-answer_line-clause-most_bytes
+returns-in-Err-answer_line-clause-most_bytes g c = few_taken _ _ _ (more_taken _ _ _ _ _ c.lines.invariant.drawn c.next_line.ensures.taken) c.next_line.ensures.bound
