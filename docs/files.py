@@ -7,6 +7,7 @@ It runs PROGRAM, the one that the gate has left if none is named, and wants this
 
 - where a read of the input fails, at once or behind whole lines, the run ends with 3: each whole line has its reply, and nothing else is written;
 - where a write of the output fails, the run ends with 4;
+- in both cases standard error tells which stream failed;
 - of a text that is too long no more is read than tells that it is;
 - where the run has no right to the text, it ends with 8, and standard error tells which call failed and how;
 - a STORE that is there, and is longer than 128 MiB, keeps its mode, its length and what stands behind them, and is served from run to run.
@@ -70,20 +71,26 @@ class Looks:
     def reads_that_fail(self):
         """A folder can be opened as the input, and not be read. A peer that ends before it has read everything breaks what it sent off."""
         folder = os.open(self.folder, os.O_RDONLY)
-        self.want("the first read fails", (3, b"", [b"ReadFault"]), self.end(self.begin("serve", TALLY, stdin=folder)))
+        told = [b"ReadFault", b"standard input: a read failed"]
+        self.want("the first read fails", (3, b"", told), self.end(self.begin("serve", TALLY, stdin=folder), lines=2))
         os.close(folder)
         peer, end = socket.socketpair()
         peer.sendall(NEW + ADD + b'{"op"')
         end.sendall(b"unread")
         peer.close()
-        wanted = 3, b"".join(REPLIES), [b"ReadFault"]
-        self.want("a read behind two lines fails", wanted, self.end(self.begin("serve", TALLY, stdin=end)))
+        wanted = 3, b"".join(REPLIES), told
+        self.want("a read behind two lines fails", wanted, self.end(self.begin("serve", TALLY, stdin=end), lines=2))
         end.close()
 
     def writes_that_fail(self):
         with open("/dev/full", "wb") as full:
-            came = self.end(self.begin("serve", TALLY, stdin=subprocess.PIPE, stdout=full), NEW + ADD)
-        self.want("a write fails", (4, None, [b"WriteFault"]), came)
+            came = self.end(self.begin("serve", TALLY, stdin=subprocess.PIPE, stdout=full), NEW + ADD, lines=3)
+        told = [
+            b"WriteFault",
+            b"standard output: a write failed, so what stands there may be cut short",
+            b"  note: the first request without a whole reply was answered all the same: what it changed is in the store.",
+        ]
+        self.want("a write fails", (4, None, told), came)
 
     def long_text(self):
         """The text comes through a pipe, so that it is seen how much of it was taken, but for what the pipe holds."""

@@ -4,10 +4,11 @@
 use crate::calling::endless_call;
 use ob_base::{Memory, Span};
 use ob_explain_flow::say_letting;
+use ob_explain_grammar::begins_contract;
 use ob_explain_page::{Page, Words, put_excerpt, put_place, word_of};
 use ob_flow::LettingAt;
 use ob_front::Seen;
-use ob_lexer::{LexError, Token, TokenKind, Word, lex};
+use ob_lexer::{LexError, Token, lex};
 use ob_table::{Body, Table};
 use std::alloc::Global;
 
@@ -40,14 +41,6 @@ fn tell_note(
 ) -> Result<(), Memory> {
     tell_words(page, file, span, words)?;
     put_excerpt(page, text, span)
-}
-
-// Whether a token begins the head of a contract or an interface.
-fn begins_contract(token: &Token) -> bool {
-    matches!(
-        token.kind,
-        TokenKind::Word(Word::Contract) | TokenKind::Word(Word::Interface)
-    )
 }
 
 // The place of the first name of a contract or an interface among tokens.

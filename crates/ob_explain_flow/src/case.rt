@@ -41,6 +41,12 @@ impl<'a> Case<'a> {
         shown_at(self.text, self.fault.span)
     }
 
+    /// Whether the fault stands at an `&&` or `||`: the branches that join there are what it chooses between.
+    pub fn is_at_operator(&self) -> bool {
+        let shown = self.shown();
+        shown == "&&" || shown == "||"
+    }
+
     /// Whether the body is that of a constructor that isn't written: it ends at its contract's name.
     pub fn is_default(&self) -> bool {
         let name = shown_at(self.text, self.body.end);
@@ -109,22 +115,19 @@ impl<'a> Case<'a> {
         }
     }
 
-    // The name of a slot: a parameter's, or that of the variable for which it was set last.
-    fn name_of_slot(&self, slot: u8) -> Option<&'a str> {
+    /// The name of a slot: a parameter's, or that of the variable that an earlier statement declares or assigns. What the statement
+    /// at hand makes or gets has none.
+    pub fn name_of_slot(&self, slot: u8) -> Option<&'a str> {
         if let Some(param) = self.param_of(slot) {
             return Some(word_of(param.name.as_bytes()));
         }
-        match self.set_at(slot) {
-            Some(at) => declared_at(self.text, at),
-            None => None,
+        let at = self.set_at(slot)?;
+        if at == self.stop.term.span {
+            return None;
         }
-    }
-
-    /// The name of the variable of a slot, by the statement that declares it or assigns it last.
-    pub fn name_of_variable(&self, slot: u8) -> Option<&'a str> {
-        match self.name_of_slot(slot) {
+        match declared_at(self.text, at) {
             Some(name) => Some(name),
-            None => assigned_at(self.text, self.set_at(slot)?),
+            None => assigned_at(self.text, at),
         }
     }
 

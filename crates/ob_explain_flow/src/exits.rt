@@ -3,7 +3,7 @@
 use crate::case::Case;
 use crate::forgetting::{forgetting, put_remembering, say_forgotten};
 use crate::holding::{
-    first_of, has_no_state, name_of_kind, put_held, put_permission, put_type, say,
+    first_of, has_no_state, has_state_among, name_of_kind, put_held, put_type, put_written, say,
 };
 use crate::own::put_change;
 use crate::unreached::{help_to_change, help_to_move, hidden_field};
@@ -192,28 +192,67 @@ fn lost_by_branch(case: &Case<'_>, other: &Context) -> Option<Place> {
     None
 }
 
+// Puts where branches join, and what chooses between them; the sentence goes on.
+fn put_join(case: &Case<'_>, words: &mut Words) {
+    if case.is_at_operator() {
+        say(
+            words,
+            &[" after this `", case.shown(), "` if its left side"],
+        );
+    } else {
+        words.put(" at the end of this `if` if the condition");
+    }
+}
+
+// Of `&&` and `||`, when the right side is run.
+fn say_operator(case: &Case<'_>, words: &mut Words) {
+    if case.is_at_operator() {
+        let shown = case.shown();
+        say(
+            words,
+            &[
+                "the right side of `",
+                shown,
+                "` is run only if the left side ",
+            ],
+        );
+        words.put(if shown == "&&" {
+            "holds."
+        } else {
+            "doesn't hold."
+        });
+    }
+}
+
+/// Where branches join at `&&` or `||`, puts that an `if` can stand for it; the sentence goes on.
+pub fn help_with_operator(case: &Case<'_>, words: &mut Words) {
+    if case.is_at_operator() {
+        let shown = case.shown();
+        say(
+            words,
+            &[
+                "write an `if` in place of this `",
+                shown,
+                "`, in front of the statement, and there ",
+            ],
+        );
+    }
+}
+
 // Says after which branch a place still owns, and after which it doesn't.
 fn say_branches(case: &Case<'_>, other: &Context, words: &mut Words, place: Place) {
     let owns_first = case.frame.owns_asset(case.context(), place);
     let context = if owns_first { case.context() } else { other };
     let of = name_of_kind(case.frame.table(), context.kind(place));
-    let (keeps, loses) = if owns_first {
-        ("if the condition holds", "if it doesn't")
-    } else {
-        ("if the condition doesn't hold", "if it does")
-    };
     case.put_place(words, place);
     words.put(" still owns ");
     words.put_a(of);
-    say(
-        words,
-        &[
-            " at the end of this `if` ",
-            keeps,
-            ", and no longer ",
-            loses,
-        ],
-    );
+    put_join(case, words);
+    words.put(if owns_first {
+        " holds, and no longer if it doesn't"
+    } else {
+        " doesn't hold, and no longer if it does"
+    });
 }
 
 /// An asset that one branch keeps and the other doesn't.
@@ -221,6 +260,8 @@ pub fn explain_branches(case: &Case<'_>, told: &mut Explanation) {
     if let Some(other) = &case.trace.other {
         if let Some(place) = lost_by_branch(case, other) {
             say_branches(case, other, &mut told.what, place);
+            say_operator(case, &mut told.note);
+            help_with_operator(case, &mut told.help);
             return told.help.put(
                 "do with the asset the same in both branches (give it on, keep it, or `disown` it), or `revert` in one of them; where there is no `else`, write `else { revert \"..\"; }`.",
             );
@@ -240,10 +281,14 @@ pub fn explain_this(case: &Case<'_>, told: &mut Explanation) {
     let this = Place::This;
     told.what.put("`this` is held as `");
     case.put_held(&mut told.what, this);
-    told.what.put("` at the end of this `if` if the condition holds, and as `");
+    told.what.put("`");
+    put_join(case, &mut told.what);
+    told.what.put(" holds, and as `");
     let perm = other.counted(this);
     put_held(&mut told.what, case.frame.table(), other.kind(this), perm);
     told.what.put("` if it doesn't");
+    say_operator(case, &mut told.note);
+    help_with_operator(case, &mut told.help);
     told.help.put(match case.frame.signature().exit.mode {
         Mode::Owned => "hand `this` on in none of the branches, or `revert` where you do.",
         _ => {
@@ -275,7 +320,22 @@ fn put_wanted(case: &Case<'_>, words: &mut Words, place: Place, exit: Perm) {
 fn put_last(case: &Case<'_>, words: &mut Words, place: Place) {
     let context = case.context();
     let perm = context.counted(place);
-    put_permission(words, case.frame.table(), context.kind(place), perm);
+    put_written(words, case.frame.table(), context.kind(place), perm);
+}
+
+// Says in which state the object is that a constructor makes.
+fn say_made(case: &Case<'_>, words: &mut Words) {
+    let held = case.context().permission(Place::This);
+    if !has_no_state(held) {
+        words.put("its object is `");
+        case.put_held(words, Place::This);
+        return words.put("` here");
+    }
+    words.put(if has_state_among(case.frame.own(), held.states) {
+        "its object may have no state yet here"
+    } else {
+        "its object has no state yet here"
+    });
 }
 
 // The state that `this` is in at the end of a constructor isn't one that it gives.
@@ -283,13 +343,8 @@ fn explain_given(case: &Case<'_>, exit: Perm, told: &mut Explanation) {
     case.put_body(&mut told.what);
     told.what.put(" gives `");
     put_wanted(case, &mut told.what, Place::This, exit);
-    if has_no_state(case.context().permission(Place::This)) {
-        told.what.put("`, and its object has no state yet here");
-    } else {
-        told.what.put("`, and its object is `");
-        case.put_held(&mut told.what, Place::This);
-        told.what.put("` here");
-    }
+    told.what.put("`, and ");
+    say_made(case, &mut told.what);
     let Some(state) = first_of(case.frame.own(), case.frame.possible_under(exit)) else {
         return;
     };

@@ -1,12 +1,14 @@
 //! Fields that aren't there, have no value, or aren't held as they are declared.
 
 use crate::case::Case;
+use crate::exits::help_with_operator;
 use crate::forgetting::{forgetting, put_remembering, say_forgotten};
 use crate::holding::{
     first_of, first_state, name_of_body, name_of_field, put_held, put_states, put_type, say,
 };
 use crate::own::{help_with_this, is_unowned_at_entry, put_change, put_declared, say_why_this};
-use crate::uses::use_at;
+use crate::uses::{listed_in, use_at};
+use crate::ways::way_of;
 use ob_base::{FieldId, Mode, Perm, StateId};
 use ob_explain_page::{Explanation, Words, word_of};
 use ob_flow_context::{Context, kind_of};
@@ -28,24 +30,84 @@ fn wanted_of_field(case: &Case<'_>, field: FieldId) -> Perm {
 
 // Whether a field isn't held so in a context.
 fn differs_in(case: &Case<'_>, context: &Context, field: FieldId) -> bool {
-    let wanted = wanted_of_field(case, field);
-    case.frame.maybe_there(context, field) && !context.is_held_as(Place::Field(field), wanted)
+    !context.is_held_as(Place::Field(field), wanted_of_field(case, field))
 }
 
-// The first field that isn't held as it has to be, with the context in which it isn't.
-fn differing_field<'a>(case: &Case<'a>) -> Option<(FieldId, &'a Context)> {
+// The first field that may be there where `this` is held so, and isn't held as it has to be.
+fn differing_under(case: &Case<'_>, this: Perm) -> Option<FieldId> {
+    let may = case.frame.possible_under(this);
     for number in 0..case.frame.field_count() {
         let field = FieldId(number);
-        if differs_in(case, case.context(), field) {
-            return Some((field, case.context()));
-        }
-        if let Some(other) = &case.trace.other {
-            if differs_in(case, other, field) {
-                return Some((field, other));
-            }
+        if meets(may, case.frame.available(field)) && differs_in(case, case.context(), field) {
+            return Some(field);
         }
     }
     None
+}
+
+// The first field that isn't held as it has to be where a body ends, or where `this` is called upon: there those count that may
+// be there before the call.
+fn differing_here(case: &Case<'_>) -> Option<FieldId> {
+    let found = match case.form() {
+        Form::CallThis { .. } => differing_under(case, way_of(case, Place::This).held),
+        _ => None,
+    };
+    match found {
+        Some(field) => Some(field),
+        None => differing_under(case, case.context().permission(Place::This)),
+    }
+}
+
+// Whether a test ends here after whose first branch `this` is Shared again: there more was known of its state.
+fn is_shared_again(case: &Case<'_>) -> bool {
+    let tests_this = match case.form() {
+        Form::Test { place, .. } => place.place == Place::This,
+        _ => false,
+    };
+    tests_this && case.context().permission(Place::This).mode == Mode::Shared
+}
+
+// Of a field that may not be there after two branches: what is known after the one in which it is there and isn't held as it is
+// declared.
+fn differing_branch<'a>(
+    case: &Case<'a>,
+    other: &'a Context,
+    field: FieldId,
+) -> Option<&'a Context> {
+    let first = case.frame.accessible(case.context(), field);
+    let second = case.frame.accessible(other, field);
+    if first && second {
+        None
+    } else if (first || is_shared_again(case)) && differs_in(case, case.context(), field) {
+        Some(case.context())
+    } else if second && differs_in(case, other, field) {
+        Some(other)
+    } else {
+        None
+    }
+}
+
+// The first such field where branches join.
+fn differing_at_join<'a>(case: &Case<'a>, other: &'a Context) -> Option<(FieldId, &'a Context)> {
+    for number in 0..case.frame.field_count() {
+        let field = FieldId(number);
+        if let Some(context) = differing_branch(case, other, field) {
+            return Some((field, context));
+        }
+    }
+    None
+}
+
+// The field that isn't held as it has to be, with the context in which it isn't.
+fn differing_field<'a>(case: &Case<'a>) -> Option<(FieldId, &'a Context)> {
+    if let Some(other) = &case.trace.other {
+        return differing_at_join(case, other);
+    }
+    let field = match case.form() {
+        Form::Change { given, .. } => given_at(case, given.as_slice())?,
+        _ => differing_here(case)?,
+    };
+    Some((field, case.context()))
 }
 
 fn name_of_called(signature: Option<&Signature>) -> &str {
@@ -68,6 +130,17 @@ fn say_where(case: &Case<'_>, words: &mut Words) {
             say(words, &["where `", name, "` is called on `this`"]);
         }
         Form::Change { .. } => words.put("after this change of a shared `this`"),
+        _ if case.is_at_operator() => {
+            let shown = case.shown();
+            say(
+                words,
+                &[
+                    "on a way through this `",
+                    shown,
+                    "` after which the field may not be there",
+                ],
+            );
+        }
         _ => words.put("where a branch ends after which the field may not be there"),
     }
 }
@@ -103,23 +176,13 @@ fn listing<'a>(case: &Case<'a>) -> Option<&'a Signature> {
     }
 }
 
-// Whether the list of a transaction has a field.
-fn lists(signature: &Signature, field: FieldId) -> bool {
-    for one in signature.listed.as_slice() {
-        if one.field == field {
-            return true;
-        }
-    }
-    false
-}
-
 // Says by which declaration or list the field has to be so.
 fn say_declared(case: &Case<'_>, field: FieldId, words: &mut Words) {
     let table = case.frame.table();
     let name = name_of_field(case.frame, field);
     let of = case.frame.type_of_field(field);
     match listing(case) {
-        Some(signature) if lists(signature, field) => {
+        Some(signature) if listed_in(signature, field).is_some() => {
             let entry = case.frame.entry_of_field(signature, field);
             let exit = case.frame.exit_of_field(signature, field);
             let lister = word_of(signature.name.as_bytes());
@@ -153,7 +216,7 @@ fn help_with_list(case: &Case<'_>, field: FieldId, held: Perm, words: &mut Words
     let Some(signature) = listing(case) else {
         return;
     };
-    if case.frame.constructs() || lists(signature, field) {
+    if case.frame.constructs() || listed_in(signature, field).is_some() {
         return;
     }
     let kind = kind_of(case.frame.type_of_field(field));
@@ -174,9 +237,19 @@ fn is_of_states(case: &Case<'_>, field: FieldId) -> bool {
     !subset(all, case.frame.available(field))
 }
 
-// How a field is held as it has to be.
+// How a field is held as it has to be: what is owned in another state comes back into that one.
 fn help_to_fill(case: &Case<'_>, field: FieldId, held: Perm, words: &mut Words) {
-    words.put("fill it again before this");
+    let wanted = wanted_of_field(case, field);
+    words.put(if held.mode == Mode::Owned && wanted.mode == Mode::Owned {
+        "bring it back into that state"
+    } else {
+        "fill it again"
+    });
+    words.put(if case.trace.other.is_some() {
+        " before that branch ends"
+    } else {
+        " before this"
+    });
     if is_of_states(case, field) {
         words.put("; or change to a state that hasn't it");
     }
@@ -203,6 +276,7 @@ pub fn explain_field(case: &Case<'_>, told: &mut Explanation) {
     say_field(case, &mut told.what, field, context);
     say_declared(case, field, &mut told.note);
     let held = context.permission(Place::Field(field));
+    help_with_operator(case, &mut told.help);
     help_with_field(case, field, held, &mut told.help);
 }
 
@@ -231,13 +305,8 @@ fn filled(form: &Form) -> Option<FieldId> {
     }
 }
 
-// The field of which it is asked whether it is there.
+// The field that is read or filled and of which it is asked whether it is there.
 fn field_asked(case: &Case<'_>) -> Option<FieldId> {
-    if let Form::Change { given, .. } = case.form() {
-        if let Some(field) = given_at(case, given.as_slice()) {
-            return Some(field);
-        }
-    }
     if let Some(one) = use_at(case.frame, case.form(), case.fault.span) {
         if let Place::Field(field) = one.operand.place {
             return Some(field);
@@ -246,13 +315,13 @@ fn field_asked(case: &Case<'_>) -> Option<FieldId> {
     filled(case.form())
 }
 
-// The name of the state to which a form changes.
-fn changed_to<'a>(case: &Case<'a>) -> Option<&'a str> {
+// The field at the fault's place that a change gives, with the name of its state.
+fn given_to_state<'a>(case: &Case<'a>) -> Option<(FieldId, &'a str)> {
     match case.form() {
-        Form::Change { state, .. } => match case.frame.own().states.get(usize::from(state.0)) {
-            Some(name) => Some(word_of(name.as_bytes())),
-            None => None,
-        },
+        Form::Change { state, given } => {
+            let field = given_at(case, given.as_slice())?;
+            Some((field, case.name_of_state(*state)))
+        }
         _ => None,
     }
 }
@@ -337,14 +406,14 @@ fn help_with_access(case: &Case<'_>, field: FieldId, this: Perm, words: &mut Wor
 
 /// A field that may not be there.
 pub fn explain_accessible(case: &Case<'_>, told: &mut Explanation) {
+    if let Some((field, to)) = given_to_state(case) {
+        return explain_foreign(case, field, to, told);
+    }
     let Some(field) = field_asked(case) else {
         return told
             .what
             .put("this field may not be there in the state here");
     };
-    if let Some(to) = changed_to(case) {
-        return explain_foreign(case, field, to, told);
-    }
     let name = name_of_field(case.frame, field);
     let this = case.context().permission(Place::This);
     say(&mut told.what, &["the field `", name, "` is there in `"]);
@@ -401,16 +470,35 @@ fn name_of_some<'a>(case: &Case<'a>, field: Option<FieldId>) -> &'a str {
     }
 }
 
+// Whether a field has a value in some of the states in which `this` may be.
+fn may_have_value(case: &Case<'_>, field: Option<FieldId>) -> bool {
+    match field {
+        Some(field) => {
+            case.frame.maybe_there(case.context(), field)
+                && case.context().is_set(Place::Field(field))
+        }
+        None => false,
+    }
+}
+
 // What has no value at a change of state.
 fn explain_missing(case: &Case<'_>, state: StateId, given: &[Given], told: &mut Explanation) {
     let to = case.name_of_state(state);
-    let name = name_of_some(case, missing_field(case, state, given));
+    let field = missing_field(case, state, given);
     say(
         &mut told.what,
-        &["the state `", to, "` has the field `", name],
+        &[
+            "the state `",
+            to,
+            "` has the field `",
+            name_of_some(case, field),
+        ],
     );
-    told.what
-        .put("`, which has no value yet and isn't given here");
+    told.what.put(if may_have_value(case, field) {
+        "`, which may have no value yet and isn't given here"
+    } else {
+        "`, which has no value yet and isn't given here"
+    });
     told.help.put("write ");
     put_change(case, &mut told.help, state, given);
     told.help.put(".");

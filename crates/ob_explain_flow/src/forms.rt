@@ -2,13 +2,13 @@
 
 use crate::case::Case;
 use crate::holding::{
-    first_state, has_state_among, name_of_body, name_of_field, name_of_kind, put_held,
-    put_permission, say,
+    first_state, has_no_state, has_state_among, name_of_body, name_of_field, name_of_kind,
+    put_held, put_written, say,
 };
 use crate::own::{is_unowned_at_entry, say_why_this};
 use crate::permissions::put_test;
 use crate::tested::{explain_tested, explain_under_test, explain_unowned};
-use crate::uses::{Role, put_role, taking, use_at};
+use crate::uses::{Role, put_role, stands_before, taking, use_at};
 use ob_base::{
     ASSERT_FAILS, BAD_TRANSITION, FieldId, Mode, Perm, TEST_TWICE, TEST_UNOWNED,
     THIS_IN_CONSTRUCTOR, UNDER_TEST, USED_TWICE, VIEW_CHANGES,
@@ -37,6 +37,11 @@ fn explain_view(case: &Case<'_>, told: &mut Explanation) {
     told.help
         .put("@Shared this` or a state as the first parameter of `");
     say(&mut told.help, &[body, "`."]);
+}
+
+// Whether an argument of a call on `this` is the first of its place: then the fault is that a field is lent.
+fn is_lent(case: &Case<'_>, place: Place) -> bool {
+    !stands_before(case.frame, case.form(), place, case.fault.span)
 }
 
 // A field that is lent to a call on `this`.
@@ -75,7 +80,9 @@ fn explain_twice(case: &Case<'_>, told: &mut Explanation) {
                 .put("`this` would own itself by one of its fields");
             told.help.put("give the field another object.");
         }
-        (Form::CallThis { .. }, Place::Field(field)) => explain_lent(case, field, told),
+        (Form::CallThis { .. }, Place::Field(field)) if is_lent(case, place) => {
+            explain_lent(case, field, told);
+        }
         _ => {
             say(
                 &mut told.what,
@@ -92,6 +99,9 @@ fn explain_twice(case: &Case<'_>, told: &mut Explanation) {
 // How more is known of the state of what is asserted, if a test of it can tell.
 fn help_with_test(case: &Case<'_>, place: Place, asserted: Perm, words: &mut Words) {
     let held = case.context().counted(place);
+    if case.frame.constructs() && place == Place::This {
+        return;
+    }
     let Kind::Reference(id) = case.context().kind(place) else {
         return;
     };
@@ -111,19 +121,30 @@ fn help_with_test(case: &Case<'_>, place: Place, asserted: Perm, words: &mut Wor
     }
 }
 
+// Which assertion holds where one isn't so.
+fn help_with_assertion(case: &Case<'_>, place: Place, words: &mut Words) {
+    let held = case.context().counted(place);
+    let has_states = !case.frame.own().states.is_empty();
+    if place == Place::This && has_states && has_no_state(held) {
+        return words.put(
+            "leave it out, or change the state before it: no permission says that an object has no state yet.",
+        );
+    }
+    say(words, &["`[", case.shown(), " @ "]);
+    put_written(words, case.frame.table(), case.context().kind(place), held);
+    words.put("];` holds here.");
+}
+
 // An assertion that isn't so.
 fn explain_assertion(case: &Case<'_>, told: &mut Explanation) {
     if let Form::Assert { place, perm } = case.form() {
         let kind = case.context().kind(place.place);
-        let held = case.context().counted(place.place);
         say(&mut told.what, &["`", case.shown(), "` is held as `"]);
         case.put_held(&mut told.what, place.place);
         told.what.put("` here, and `");
         put_held(&mut told.what, case.frame.table(), kind, *perm);
         told.what.put("` is asserted");
-        say(&mut told.help, &["`[", case.shown(), " @ "]);
-        put_permission(&mut told.help, case.frame.table(), kind, held);
-        told.help.put("];` holds here.");
+        help_with_assertion(case, place.place, &mut told.help);
         help_with_test(case, place.place, *perm, &mut told.help);
     }
 }

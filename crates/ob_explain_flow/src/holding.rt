@@ -154,27 +154,35 @@ pub fn put_permission(words: &mut Words, table: &Table, kind: Kind, perm: Perm) 
     }
 }
 
+/// Puts the same as it can be written: of a state that an interface doesn't name only that it is owned can be said.
+pub fn put_written(words: &mut Words, table: &Table, kind: Kind, perm: Perm) {
+    if has_bit(perm.states, OTHER_STATE_BIT) {
+        words.put("Owned");
+    } else {
+        put_permission(words, table, kind, perm);
+    }
+}
+
 /// Puts a type.
 pub fn put_type(words: &mut Words, table: &Table, of: ResolvedType) {
     put_held(words, table, kind_of(of), permission_of_type(of));
 }
 
-// The letters that a text begins with.
-fn front_word(text: &str) -> &str {
+// The letters that a text ends with.
+fn last_word(text: &str) -> &str {
     let length = text
         .as_bytes()
         .iter()
+        .rev()
         .take_while(|byte| is_letter_or_digit(**byte))
         .count();
-    text.get(..length).unwrap_or("")
+    text.get(text.len().saturating_sub(length)..).unwrap_or("")
 }
 
-// What stands after a word and the blanks behind it.
-fn after_word<'a>(text: &'a str, word: &str) -> &'a str {
-    match text.get(word.len()..) {
-        Some(rest) => rest.trim_start(),
-        None => "",
-    }
+// Whether a text can be the type of a variable.
+fn is_type(text: &str) -> bool {
+    let fits = text.bytes().all(|byte| is_letter_or_digit(byte) || b"[]@| \t".contains(&byte));
+    fits && !text.is_empty()
 }
 
 // The text from a place on, as far as a statement's first words may go.
@@ -190,31 +198,31 @@ fn text_from(text: &[u8], at: Span) -> &str {
     )
 }
 
-// Whether a text begins with the sign that gives a value.
-fn gives(text: &str) -> bool {
-    text.starts_with("=") && !text.starts_with("==")
+// What stands before the name to which the statement at a place gives a value, and the name, behind which stands an `=`.
+fn given_name_at(text: &[u8], at: Span) -> Option<(&str, &str)> {
+    let (front, behind) = text_from(text, at).split_once('=')?;
+    let front = front.trim_end();
+    let name = last_word(front);
+    if name.is_empty() || behind.starts_with("=") {
+        return None;
+    }
+    let before = front.get(..front.len().saturating_sub(name.len()))?;
+    Some((before.trim_end(), name))
 }
 
-/// The name that the statement at a place declares: its type and the name stand before an `=`.
+/// The name that the statement at a place declares: its type stands before it.
 pub fn declared_at(text: &[u8], at: Span) -> Option<&str> {
-    let line = text_from(text, at);
-    let rest = after_word(line, front_word(line));
-    let name = front_word(rest);
-    if !name.is_empty() && gives(after_word(rest, name)) {
-        Some(name)
-    } else {
-        None
+    match given_name_at(text, at) {
+        Some((before, name)) if is_type(before) => Some(name),
+        _ => None,
     }
 }
 
-/// The name that the statement at a place assigns: it stands before an `=`.
+/// The name that the statement at a place assigns: nothing stands before it.
 pub fn assigned_at(text: &[u8], at: Span) -> Option<&str> {
-    let line = text_from(text, at);
-    let name = front_word(line);
-    if !name.is_empty() && gives(after_word(line, name)) {
-        Some(name)
-    } else {
-        None
+    match given_name_at(text, at) {
+        Some((before, name)) if before.is_empty() => Some(name),
+        _ => None,
     }
 }
 

@@ -78,7 +78,7 @@ fn name_of<'a>(case: &Case<'a>, place: Place) -> &'a str {
     match place {
         Place::This => "this",
         Place::Field(field) => name_of_field(case.frame, field),
-        Place::Slot(slot) => case.name_of_variable(slot).unwrap_or("it"),
+        Place::Slot(slot) => case.name_of_slot(slot).unwrap_or("it"),
     }
 }
 

@@ -55,10 +55,18 @@ pub fn is_unowned_at_entry(case: &Case<'_>) -> bool {
     case.frame.signature().entry.mode == Mode::Unowned
 }
 
+// Whether the statement at hand gives `this` away before it comes to what the fault is about, where no statement before did.
+fn is_given_here(case: &Case<'_>) -> bool {
+    case.context().permission(Place::This).mode == Mode::Unowned && !is_unowned_at_entry(case)
+}
+
 /// Says why `this` isn't an owner's: it isn't named, it is named otherwise, or it was given away.
 pub fn say_why_this(case: &Case<'_>, words: &mut Words) {
     if let Some(loss) = way_of(case, Place::This).loss {
         return say_loss(case, words, "`this`", loss);
+    }
+    if is_given_here(case) {
+        return words.put("this statement hands `this` on first.");
     }
     let name = name_of_body(case.frame);
     if lacks_this(case) {
@@ -99,6 +107,9 @@ pub fn put_declared(
 pub fn help_with_this(case: &Case<'_>, words: &mut Words, entry: Perm, exit: Perm) {
     if way_of(case, Place::This).loss.is_some() {
         return words.put("do it before that");
+    }
+    if is_given_here(case) {
+        return words.put("put it into a variable before this statement, and hand that over");
     }
     words.put("write `");
     let kind = Kind::Reference(case.frame.here());

@@ -1,12 +1,12 @@
 //! The operands of a form, with what each use wants and by which declaration.
 
 use crate::holding::{name_of_body, name_of_field, name_of_kind, say};
-use ob_base::{ContractId, Mode, Perm, Span, TxId};
+use ob_base::{ContractId, FieldId, Mode, Perm, Span, TxId};
 use ob_explain_page::{Words, word_of};
 use ob_flow_context::BodyFrame;
 use ob_perm::{shared, unowned};
 use ob_silica::{Form, Given, Operand, Place};
-use ob_table::{Kind, Param, ResolvedType, Signature, Table};
+use ob_table::{Kind, Listed, Param, ResolvedType, Signature, Table};
 
 /// What a use of an operand is for.
 #[derive(Clone, Copy)]
@@ -23,6 +23,8 @@ pub enum Role<'a> {
     Slot(Place),
     /// It is disowned.
     Disowned,
+    /// It is a field that the list of this transaction of `this` has.
+    Listed(&'a Signature, Kind),
     /// It is tested or read.
     Other,
 }
@@ -90,6 +92,16 @@ fn called<'a>(frame: &BodyFrame<'a>, contract: ContractId, tx: TxId) -> Option<&
         Some(contract) => contract.signature(tx),
         None => None,
     }
+}
+
+/// What the list of a transaction says of a field, if it has it.
+pub fn listed_in(signature: &Signature, field: FieldId) -> Option<Listed> {
+    for one in signature.listed.as_slice() {
+        if one.field == field {
+            return Some(*one);
+        }
+    }
+    None
 }
 
 // The use of the argument of this number.
@@ -260,6 +272,18 @@ pub fn taking<'a>(frame: &BodyFrame<'a>, form: &Form, place: Place) -> Option<Us
     None
 }
 
+/// Whether an operand of the same place stands before the one at a place of the text.
+pub fn stands_before(frame: &BodyFrame<'_>, form: &Form, place: Place, at: Span) -> bool {
+    for number in 0..end_of_uses(form) {
+        if let Some(one) = use_of(frame, form, number) {
+            if one.operand.place == place {
+                return one.operand.span != at;
+            }
+        }
+    }
+    false
+}
+
 /// The use of `this` by a call on it; the form stands at this place of the text.
 pub fn use_of_this<'a>(frame: &BodyFrame<'a>, form: &Form, at: Span) -> Option<Use<'a>> {
     let Form::CallThis { tx, .. } = form else {
@@ -292,21 +316,11 @@ pub fn losing<'a>(frame: &BodyFrame<'a>, form: &Form, at: Span, place: Place) ->
     }
 }
 
-// What a transaction or constructor is called.
-fn name_of<'a>(table: &'a Table, signature: &'a Signature, of: Kind) -> &'a str {
-    let name = word_of(signature.name.as_bytes());
-    if name.is_empty() {
-        name_of_kind(table, of)
-    } else {
-        name
-    }
-}
-
-// What a parameter is of: a constructor is called as its contract.
+// What a parameter is of: a constructor has no name of its own.
 fn put_called(words: &mut Words, table: &Table, signature: &Signature, of: Kind) {
-    let name = name_of(table, signature, of);
+    let name = word_of(signature.name.as_bytes());
     let contract = name_of_kind(table, of);
-    if name == contract {
+    if name.is_empty() {
         say(words, &["the constructor of `", contract, "`"]);
     } else {
         say(words, &["the transaction `", name, "` of `", contract, "`"]);
@@ -318,12 +332,8 @@ pub fn put_role(words: &mut Words, frame: &BodyFrame<'_>, role: Role<'_>) {
     let table = frame.table();
     match role {
         Role::Receiver(signature, of) => {
-            let name = name_of(table, signature, of);
-            let contract = name_of_kind(table, of);
-            say(
-                words,
-                &["`this` of the transaction `", name, "` of `", contract, "`"],
-            );
+            words.put("`this` of ");
+            put_called(words, table, signature, of);
         }
         Role::Argument(param, signature, of) => {
             say(
@@ -334,6 +344,10 @@ pub fn put_role(words: &mut Words, frame: &BodyFrame<'_>, role: Role<'_>) {
         }
         Role::Field(name) => say(words, &["the field `", name, "`"]),
         Role::Result => say(words, &["the result of `", name_of_body(frame), "`"]),
+        Role::Listed(signature, of) => {
+            words.put("the list of ");
+            put_called(words, table, signature, of);
+        }
         Role::Slot(_) | Role::Disowned | Role::Other => words.put("this statement"),
     }
 }

@@ -3,13 +3,13 @@
 
 use crate::case::Case;
 use crate::holding::{declared_at, say};
-use crate::uses::{Role, Use, losing, put_role, use_at};
-use ob_base::{ContractId, MOST_STATES, Mode, Perm, Span, StateId, TxId};
+use crate::uses::{Role, Use, listed_in, losing, put_role, use_at};
+use ob_base::{ContractId, FieldId, MOST_STATES, Mode, Perm, Span, StateId, TxId};
 use ob_explain_page::Words;
 use ob_flow_context::permission_of_type;
 use ob_perm::{only, owned, subset, unowned};
 use ob_silica::{Form, Given, Place, Term};
-use ob_table::Signature;
+use ob_table::{Kind, Signature};
 
 /// A use by which an owner lost what it held.
 #[derive(Clone, Copy)]
@@ -38,8 +38,8 @@ pub struct OwnCall<'a> {
 /// What happened to a place.
 #[derive(Clone, Copy)]
 pub struct Way<'a> {
-    // What is held of it, where that can be told.
-    held: Perm,
+    /// What is held of it, where that can be told.
+    pub held: Perm,
     // What is held of what the term before made or got.
     made: Perm,
     /// By which use its owner lost it.
@@ -157,6 +157,37 @@ fn with_use<'a>(case: &Case<'a>, term: &Term, place: Place, way: Way<'a>) -> Way
     next
 }
 
+// What a call on `this` leaves of a field that the transaction lists.
+fn with_list<'a>(case: &Case<'a>, at: Span, tx: TxId, field: FieldId, way: Way<'a>) -> Way<'a> {
+    let mut next = way;
+    let Some(signature) = case.frame.own().signature(tx) else {
+        return next;
+    };
+    let Some(listed) = listed_in(signature, field) else {
+        return next;
+    };
+    next.held = listed.exit;
+    if listed.exit.mode == Mode::Owned {
+        next.loss = None;
+    } else if way.held.mode == Mode::Owned {
+        next.loss = Some(Loss {
+            at,
+            line: at.line,
+            role: Role::Listed(signature, Kind::Reference(case.frame.here())),
+            shares: listed.exit.mode == Mode::Shared,
+        });
+    }
+    next
+}
+
+// What a form does to a field beside its uses.
+fn with_field<'a>(case: &Case<'a>, term: &Term, field: FieldId, way: Way<'a>) -> Way<'a> {
+    match &term.form {
+        Form::CallThis { tx, .. } => with_list(case, term.span, *tx, field, way),
+        _ => way,
+    }
+}
+
 // What a call does to the state of `this`.
 fn with_call<'a>(case: &Case<'a>, at: Span, tx: TxId, way: Way<'a>) -> Way<'a> {
     let mut next = way;
@@ -191,10 +222,10 @@ fn with_state<'a>(case: &Case<'a>, term: &Term, way: Way<'a>) -> Way<'a> {
 // What a form without branches does.
 fn with_form<'a>(case: &Case<'a>, term: &Term, place: Place, way: Way<'a>) -> Way<'a> {
     let next = with_use(case, term, place, way);
-    if place == Place::This && next.loss.is_none() {
-        with_state(case, term, next)
-    } else {
-        next
+    match place {
+        Place::This if next.loss.is_none() => with_state(case, term, next),
+        Place::Field(field) => with_field(case, term, field, next),
+        _ => next,
     }
 }
 

@@ -17,3 +17,4 @@ mod trying;
 
 pub use expected::explain_grammar;
 pub use spelling::explain_token;
+pub use spots::begins_contract;

@@ -66,7 +66,7 @@ const SPELLINGS: [Spelling; 6] = [
     Spelling {
         number: BIG_NUMBER,
         wrong: "this number is above 9223372036854775807, the greatest `int`",
-        help: "the greatest is 9223372036854775807, and the least is written `-9223372036854775807 - 1`: count in a larger unit.",
+        help: "count in a larger unit; the least `int` is written `-9223372036854775807 - 1`.",
     },
     Spelling {
         number: LONG_STRING,

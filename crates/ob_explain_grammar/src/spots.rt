@@ -82,8 +82,8 @@ fn open_line(tokens: &[Token], front: &Front) -> u32 {
     }
 }
 
-// Whether a token begins the head of a contract.
-fn begins_contract(token: &Token) -> bool {
+/// Whether a token begins the head of a contract or an interface.
+pub fn begins_contract(token: &Token) -> bool {
     matches!(
         token.kind,
         TokenKind::Word(Word::Contract) | TokenKind::Word(Word::Interface)

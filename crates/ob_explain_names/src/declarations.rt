@@ -134,7 +134,7 @@ fn explain_other_exit(told: &mut Explanation, entry: &str, exit: &str) {
         &[entry, exit],
     );
     told.note.put(
-        "after `Unowned` an exit is `Unowned`, and after `Shared` it is `Shared`: only an owner can hand over more or less.",
+        "after `Unowned` an exit is `Unowned`, and after `Shared` it is `Shared`: only what comes in as an owner's may be held otherwise at the end.",
     );
     told.help.put_with(
         "write `{}` alone, or come in as `Owned` or with states.",
@@ -203,7 +203,10 @@ fn put_more(words: &mut Words, name: &str, things: &str) {
 /// A number that passes its limit.
 pub fn explain_limit(told: &mut Explanation, site: &Site<'_>, place: u32) {
     if place == 0 {
-        told.what.put("the program is too large: its code would have more than 16777216 bytes");
+        told.what.put("the program weighs more than 16777216 bytes, the most that one may");
+        told.help.put(
+            "say it in fewer statements and shorter texts: see 'Limits' in docs/GUIDE.md for what weighs.",
+        );
     } else {
         put_more(&mut told.what, site.near.word(), counted(site));
     }

@@ -79,7 +79,7 @@ const CURES: [Cure; 11] = [
     },
     Cure {
         kind: io::ErrorKind::PermissionDenied,
-        help: "see whose run this is, and which rights it has: a text is read; a store is read and written, and its folder is read.",
+        help: "the user of this run lacks a right: a text has to be readable; a store readable and writable; its folder readable, and writable too where the store is new.",
     },
     Cure {
         kind: io::ErrorKind::ReadOnlyFilesystem,
@@ -99,7 +99,7 @@ const CURES: [Cure; 11] = [
     },
     Cure {
         kind: io::ErrorKind::UnexpectedEof,
-        help: "the file became shorter while it was served: find out which process did that.",
+        help: "the file became shorter while this run had it: find out which process did that.",
     },
     Cure {
         kind: io::ErrorKind::OutOfMemory,
@@ -113,7 +113,7 @@ const CURES: [Cure; 11] = [
 
 /// What is done where another process has the lock.
 const LOCKED: &str =
-    "another process has it: a run that serves it, or `flock`. Let that one end; two never serve one store.";
+    "another process has it: a run that serves or audits it, or `flock`. Let that one end; two never have one store.";
 
 /// What is done about what isn't a regular file.
 const IRREGULAR: &str =
@@ -196,12 +196,14 @@ fn is_of_folder(failure: Failure) -> bool {
 }
 
 // What became of the store, and what to do before the next run, where bytes of the store or its name may stand otherwise on the disk
-// than in the system's memory.
-fn say_store(told: &mut Explanation, failure: Failure) {
-    told.note.put(if is_use(failure.call) {
-        "each line that has a reply is kept; of the line in hand all or nothing is."
-    } else {
+// than in the system's memory. Only a run that serves writes to it.
+fn say_store(told: &mut Explanation, failure: Failure, is_served: bool) {
+    told.note.put(if !is_use(failure.call) {
         "nothing of the store was read or written."
+    } else if is_served {
+        "each request that has a reply is kept; of the one in hand all or nothing is."
+    } else {
+        "nothing was written to the store."
     });
     if is_use(failure.call) || is_of_folder(failure) {
         told.help.put(FORGET);
@@ -217,13 +219,18 @@ pub fn explain_file(alloc: Global, name: &str, failure: Failure) -> Result<Strin
     page_of(alloc, name, title_of(alloc, failure), told)
 }
 
-/// Tells a person why a store isn't served, or not any longer, by the last call of the disk that failed: what was tried, what the
-/// system answered, what became of the store, and what to do.
-pub fn explain_disk(alloc: Global, name: &str, failure: Failure) -> Result<String, Memory>
+/// Tells a person why a store isn't served or audited, or not any longer, by the last call of the disk that failed: what was tried, what
+/// the system answered, what became of the store, and what to do.
+pub fn explain_disk(
+    alloc: Global,
+    name: &str,
+    failure: Failure,
+    is_served: bool,
+) -> Result<String, Memory>
     ensures { IfOk result (λ page. IsPage (string_bytes page)) }
 {
     let mut told = Explanation::new(alloc);
     told.help.put(help_for(failure));
-    say_store(&mut told, failure);
+    say_store(&mut told, failure, is_served);
     page_of(alloc, name, title_of(alloc, failure), told)
 }

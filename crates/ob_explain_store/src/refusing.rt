@@ -11,7 +11,7 @@ use std::alloc::Global;
 
 /// A kind of files that is known by its first bytes.
 #[derive(Clone, Copy)]
-struct Kind {
+struct FileKind {
     front: &'static [u8],
     what: &'static str,
 }
@@ -20,56 +20,56 @@ struct Kind {
 const PROGRAM: &str = "a text, maybe of a program: is it P in place of STORE?";
 
 /// Those kinds.
-const KINDS: [Kind; 13] = [
-    Kind {
+const KINDS: [FileKind; 13] = [
+    FileKind {
         front: b"OBI1",
         what: "an image of code without the store around it.",
     },
-    Kind {
+    FileKind {
         front: b"\x7fELF",
         what: "a program of the machine.",
     },
-    Kind {
+    FileKind {
         front: b"SQLite format 3\0",
         what: "a database of SQLite.",
     },
-    Kind {
+    FileKind {
         front: b"\x1f\x8b",
         what: "packed by gzip.",
     },
-    Kind {
+    FileKind {
         front: b"PK\x03\x04",
         what: "a zip archive.",
     },
-    Kind {
+    FileKind {
         front: b"%PDF",
         what: "a PDF document.",
     },
-    Kind {
+    FileKind {
         front: b"#!",
         what: "a script.",
     },
-    Kind {
+    FileKind {
         front: b"{",
         what: "a text, maybe of requests or replies.",
     },
-    Kind {
+    FileKind {
         front: b"main ",
         what: PROGRAM,
     },
-    Kind {
+    FileKind {
         front: b"asset ",
         what: PROGRAM,
     },
-    Kind {
+    FileKind {
         front: b"contract ",
         what: PROGRAM,
     },
-    Kind {
+    FileKind {
         front: b"//",
         what: PROGRAM,
     },
-    Kind {
+    FileKind {
         front: b"/*",
         what: PROGRAM,
     },

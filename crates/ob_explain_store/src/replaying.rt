@@ -29,7 +29,8 @@ fn follow(
     Ok(())
 }
 
-/// The content to which the records of an area lead, as far as they say changes.
+/// The content to which the records of an area lead. `Memory` also where one says no changes, which none does of a store that is
+/// refused as not at rest.
 pub fn replayed(alloc: Global, code: &Image, bytes: &[u8]) -> Result<Content, Memory> {
     let mut content = Content::new(alloc);
     let mut records = Records::of(bytes);

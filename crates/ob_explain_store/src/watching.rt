@@ -14,9 +14,9 @@ pub struct Front {
     pub blank: bool,
     /// How many records the current area has.
     pub records: u64,
-    /// How many bytes that area has, up to the gate behind its records.
+    /// How many bytes that area has up to the gate behind its records, and with it.
     pub used: usize,
-    /// How many of them all that the store held took when it last moved there; 0 where it never moved.
+    /// How many of them there were when the store had just moved there: the header, and all that it held then; 0 where it never moved.
     pub moved: usize,
     // How many bytes this is known by.
     read: usize,

@@ -2,14 +2,14 @@
 
 use crate::parts::{Given, Parts, SETTINGS, Setting, setting_named};
 use ob_explain_page::{Explanation, Nearest};
-use ob_words::LONGEST_TRIAL;
+use ob_words::{LONGEST_TRIAL, number_in};
 
-/// A word for a command.
+/// A command: its word, how many words stand after it, and how it is written.
 #[derive(Clone, Copy)]
-struct Form {
+struct CommandHelp {
     // The word.
     word: &'static str,
-    // The fewest words behind it.
+    // The fewest words after it.
     least: usize,
     // The most.
     most: usize,
@@ -18,26 +18,26 @@ struct Form {
 }
 
 /// The commands.
-const FORMS: [Form; 4] = [
-    Form {
+const FORMS: [CommandHelp; 4] = [
+    CommandHelp {
         word: "check",
         least: 1,
         most: 1,
         help: "write `check P`: P is the file with the program's text.",
     },
-    Form {
+    CommandHelp {
         word: "serve",
         least: 1,
         most: 2,
         help: "write `serve P` or `serve P STORE`: P is the file with the program's text, STORE the file in which its store is kept.",
     },
-    Form {
+    CommandHelp {
         word: "audit",
         least: 2,
         most: 2,
         help: "write `audit P STORE`: P is the file with the program's text, STORE the file in which its store is kept.",
     },
-    Form {
+    CommandHelp {
         word: "trial",
         least: 1,
         most: 1,
@@ -50,15 +50,7 @@ const COMMANDS: &str =
     "the commands are `check P`, `serve P`, `serve P STORE`, `audit P STORE` and `trial N`; `--help` tells more.";
 
 const OPTIONS: &str =
-    "the options are `--fuel UNITS`, `--lanes LANES` and `--slice UNITS`; behind the word `--` a name may begin with `-`.";
-
-// The number from `least` to `most` that a word writes.
-fn is_number(word: &str, least: u32, most: u32) -> bool {
-    match word.parse::<u32>() {
-        Ok(number) => least <= number && number <= most && !word.starts_with("+"),
-        Err(_) => false,
-    }
-}
+    "the options are `--fuel UNITS`, `--lanes LANES` and `--slice UNITS`; after the word `--` a name may begin with `-`.";
 
 // Which values an option has.
 fn help_value(told: &mut Explanation, setting: Setting) {
@@ -89,7 +81,7 @@ fn say_unknown_option(told: &mut Explanation, name: &str) {
 // The value of an option, if it is wrong.
 fn say_value(told: &mut Explanation, setting: Setting, value: Option<&str>) {
     match value {
-        Some(word) if is_number(word, 1, setting.most) => return,
+        Some(word) if number_in(word, 1, setting.most).is_some() => return,
         Some(word) => {
             told.what.put_with("`{}` is no value of ", &[word]);
             told.what.put_with("`{}`", &[setting.name]);
@@ -142,17 +134,17 @@ fn say_unknown_command(told: &mut Explanation, word: &str) {
     help_near(told, nearest.found(), COMMANDS);
 }
 
-// The words behind a command, if they are wrong.
-fn say_names(told: &mut Explanation, form: Form, names: &[&str]) {
+// The words after a command, if they are wrong.
+fn say_names(told: &mut Explanation, form: CommandHelp, names: &[&str]) {
     match names.get(form.most) {
         Some(name) => {
             told.what
-                .put_with("`{}` is one word too many behind ", &[*name]);
+                .put_with("`{}` is one word too many after ", &[*name]);
             told.what.put_with("`{}`", &[form.word]);
         }
         None if names.len() < form.least => told
             .what
-            .put_with("behind `{}` a word is missing", &[form.word]),
+            .put_with("after `{}` a word is missing", &[form.word]),
         None => return,
     }
     told.help.put(form.help);
@@ -161,7 +153,7 @@ fn say_names(told: &mut Explanation, form: Form, names: &[&str]) {
 // The length of a trial, if it is wrong.
 fn say_length(told: &mut Explanation, names: &[&str]) {
     if let [length] = names {
-        if !is_number(length, 0, LONGEST_TRIAL) {
+        if number_in(length, 0, LONGEST_TRIAL).is_none() {
             told.what
                 .put_with("`{}` is no length of a trial", &[*length]);
             told.help.put("it is a whole number from 0 to ");
@@ -172,7 +164,7 @@ fn say_length(told: &mut Explanation, names: &[&str]) {
 }
 
 // The command of a word.
-fn form_of(word: &str) -> Option<Form> {
+fn form_of(word: &str) -> Option<CommandHelp> {
     for form in FORMS.iter() {
         if form.word == word {
             return Some(*form);
@@ -181,7 +173,7 @@ fn form_of(word: &str) -> Option<Form> {
     None
 }
 
-// The command and the words behind it, if they are wrong.
+// The command and the words after it, if they are wrong.
 fn say_command(told: &mut Explanation, word: &str, names: &[&str]) {
     let Some(form) = form_of(word) else {
         return say_unknown_command(told, word);

@@ -44,7 +44,7 @@ pub fn setting_named(name: &str) -> Option<Setting> {
 pub struct Given<'a> {
     /// Its word, without a value.
     pub name: &'a str,
-    /// Its value, if one stands behind it.
+    /// Its value, if one stands after it.
     pub value: Option<&'a str>,
 }
 
@@ -53,7 +53,7 @@ pub struct Given<'a> {
 pub struct Parts<'a> {
     /// The options.
     pub given: Vec<Given<'a>>,
-    /// The other words: the one for the command, and those behind it.
+    /// The other words: the one for the command, and those after it.
     pub plain: Vec<&'a str>,
     // Whether the next word is the value of the last option.
     waits: bool,
@@ -75,7 +75,7 @@ impl<'a> Parts<'a> {
         }
     }
 
-    // An option, maybe with its value behind `=`.
+    // An option, maybe with its value after `=`.
     fn take_option(&mut self, word: &'a str) -> Result<(), Memory> {
         let (name, value) = match word.split_once("=") {
             Some((name, value)) => (name, Some(value)),

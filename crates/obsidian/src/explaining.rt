@@ -11,6 +11,32 @@ use ob_run::{AREA, Examined, Exit, StoreRefusal};
 use ob_words::{Command, parse_words};
 use std::alloc::Global;
 
+/// What is told where a read of the input failed.
+const INPUT_FAILED: &str = "\
+standard input: a read failed
+  note: each request that was read whole has its reply.
+  help: begin another run for the rest.
+";
+
+/// What is told where a write of the output failed.
+const OUTPUT_FAILED: &str = "\
+standard output: a write failed, so what stands there may be cut short
+";
+
+/// What is told where a write of replies failed.
+const REPLIES_FAILED: &str = "\
+standard output: a write failed, so what stands there may be cut short
+  note: the first request without a whole reply was answered all the same: what it changed is in the store.
+  help: look before you ask it again.
+";
+
+/// What is told where the input is too long.
+const INPUT_TOO_LONG: &str = "\
+standard input: a run takes 2^40 bytes of it, and no more
+  note: each request that was read whole has its reply.
+  help: begin another run for the rest.
+";
+
 /// The command that words are; None where they are none, or memory lacks.
 pub fn command_of(alloc: Global, words: &[String]) -> Option<Command<'_>> {
     match parse_words(alloc, words) {
@@ -104,14 +130,41 @@ fn explain_files(alloc: Global, file: &str, failure: Option<Failure>) -> Result<
 // Why the disk failed, or refuses the store.
 fn explain_store(
     alloc: Global,
+    command: Command<'_>,
     store: &str,
     examined: &Examined<'_>,
     disk: &FileDisk<&HostRuntime>,
     exit: Exit,
 ) -> Result<String, Memory> {
     match disk.failure() {
-        Some(failure) if exit == Exit::DiskFault => explain_disk(alloc, store, failure),
+        Some(failure) if exit == Exit::DiskFault => {
+            let is_served = matches!(command, Command::ServeStored(_, _));
+            explain_disk(alloc, store, failure, is_served)
+        }
         _ => explain_refusal(alloc, store, examined, disk),
+    }
+}
+
+// A page that says this.
+fn page_with(alloc: Global, told: &str) -> Result<String, Memory> {
+    Ok(String::from_str(alloc, told)?)
+}
+
+// Whether it is replies that are written, where the text has no fault.
+fn writes_replies(command: Command<'_>, examined: &Examined<'_>) -> bool {
+    matches!(command, Command::Serve(_) | Command::ServeStored(_, _)) && examined.refusal.is_none()
+}
+
+// What became of a write that failed, where the text has no fault.
+fn explain_output(
+    alloc: Global,
+    command: Command<'_>,
+    examined: &Examined<'_>,
+) -> Result<String, Memory> {
+    if writes_replies(command, examined) {
+        page_with(alloc, REPLIES_FAILED)
+    } else {
+        page_with(alloc, OUTPUT_FAILED)
     }
 }
 
@@ -127,7 +180,12 @@ pub fn explain_run(
     match (exit, store_of(Some(command))) {
         (Exit::FileFault, _) => explain_files(alloc, file_of(command), failure),
         (Exit::DiskFault | Exit::StoreRefused, Some(store)) => {
-            explain_store(alloc, store, examined, disk, exit)
+            explain_store(alloc, command, store, examined, disk, exit)
+        }
+        (Exit::ReadFault, _) => page_with(alloc, INPUT_FAILED),
+        (Exit::Long, _) => page_with(alloc, INPUT_TOO_LONG),
+        (Exit::WriteFault, _) if examined.fault.is_none() => {
+            explain_output(alloc, command, examined)
         }
         _ => explain_text(alloc, command, examined, exit),
     }
