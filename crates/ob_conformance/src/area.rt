@@ -15,15 +15,14 @@ use ob_io::{SureSink, SureSource};
 use ob_serve::{Limits, Served, serve};
 use ob_store::{OpenError, Store};
 use ob_verify::Verified;
+use ob_words::{DEFAULT_FUEL, DEFAULT_LANES, DEFAULT_SLICE, MOST_LANES};
 use std::alloc::Global;
 
-/// The most lanes that a session has.
-const MOST_LANES: u8 = 8;
 /// The limits of a session where none are told.
 const LIMITS: Limits = Limits {
-    fuel: 100_000,
-    lanes: 1,
-    slice: 1000,
+    fuel: DEFAULT_FUEL,
+    lanes: DEFAULT_LANES as u8,
+    slice: DEFAULT_SLICE,
 };
 
 /// The limits of a session: `FUEL LANES SLICE`.
@@ -35,7 +34,7 @@ pub fn limits_in(asked: &mut Question<'_>, page: &mut Page) -> Limits
     let fuel = u32::try_from(asked.number(page)).unwrap_or(0);
     let lanes = u8::try_from(asked.number(page)).unwrap_or(0);
     let slice = u32::try_from(asked.number(page)).unwrap_or(0);
-    if lanes == 0 || lanes > MOST_LANES || slice == 0 {
+    if lanes == 0 || u32::from(lanes) > MOST_LANES || slice == 0 {
         page.fail();
         return LIMITS;
     }

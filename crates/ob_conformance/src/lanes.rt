@@ -10,6 +10,7 @@ ghost use Rattle.ob_invocation_spec.specs.Requests.{HasLabels};
 ghost use Rattle.ob_lanes_laws.specs.Laws.{OfEach};
 ghost use Rattle.ob_store_spec.specs.Stores.{StoreState};
 ghost use Rattle.ob_wire.specs.Meanings.{request_of};
+ghost use Rattle.ob_wire.specs.Requests.{most_requests};
 ghost use Rattle.ob_wire.specs.declared.request.Request.{Request as Asked};
 ghost use Rattle.ob_serve.specs.Kept.{AreLimits, IsServable};
 ghost use Rattle.ob_serve.specs.Serving.{IsServing};
@@ -93,7 +94,7 @@ fn put_batch<D: Disk>(
     page: &mut Page,
 )
     requires some { 0 < length batch }
-    requires most { length batch ≤ 64 }
+    requires most { length batch ≤ most_requests }
     requires labels { OfEach HasLabels (map request_of batch) }
     requires servable { IsServable code.now }
     requires limits { AreLimits limits }
@@ -121,7 +122,7 @@ fn put_stored(
     page: &mut Page,
 )
     requires some { 0 < length batch }
-    requires most { length batch ≤ 64 }
+    requires most { length batch ≤ most_requests }
     requires labels { OfEach HasLabels (map request_of batch) }
     requires servable { IsServable code.now }
     requires fits { image.fits code.now }

@@ -19,7 +19,7 @@ use crate::question::{Question, bytes_in};
 use crate::runs::put_told;
 use ob_base::{Label, Memory};
 use ob_disk::MemoryDisk;
-use ob_exec::{Ended, Run, answer};
+use ob_exec::{Run, SliceOutcome, answer};
 use ob_exec_entries::Names;
 use ob_exec_handles::ReadItem;
 use ob_front::Seen;
@@ -106,8 +106,8 @@ fn put_end(
 {
     'slices: for _ in 0..u32::MAX {
         match started.slice(code, content, units) {
-            Ok(Ended::Going) => {}
-            Ok(Ended::Yes(reply, delta)) => {
+            Ok(SliceOutcome::Paused) => {}
+            Ok(SliceOutcome::Ended(reply, delta)) => {
                 put_spent(started.used(), started.reads(), page);
                 return put_answer(alloc, &reply, &delta, page);
             }
