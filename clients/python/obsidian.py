@@ -52,20 +52,21 @@ ABORTS = {
     ("full",): "begin a new store",
     ("room", "need", "size"): 'see "A full store" in the guide',
 }
-# How a run ends, by its status: the name, and what it says of the line that has no reply.
+# How a run ends, by its status: the name, and what became of the request in hand: of those without a reply the one that would have been
+# answered next. The others weren't done.
 ENDS = {
     0: ("Done", "its input was ended before: the line wasn't asked"),
     1: ("Refused", "the text of the program has a fault: nothing was done"),
     2: ("Usage", "the words are no command: nothing was done"),
     3: ("ReadFault", "the line wasn't read: it wasn't done"),
-    4: ("WriteFault", "the line may be done"),
-    5: ("DiskFault", "the line is in the store whole or not at all: look before you ask again"),
+    4: ("WriteFault", "the request in hand may be done: look before you ask again"),
+    5: ("DiskFault", "the request in hand is in the store whole or not at all: look before you ask again"),
     6: ("StoreRefused", "the store wasn't opened: nothing was done"),
-    7: ("Memory", "the line changed nothing"),
+    7: ("Memory", "the request in hand changed nothing"),
     8: ("FileFault", "the file of the program couldn't be read: nothing was done"),
     9: ("Long", "the line wasn't read: it wasn't done"),
 }
-UNKNOWN_END = ("Crash", "the line is in the store whole or not at all: look before you ask again")
+UNKNOWN_END = ("Crash", "the request in hand is in the store whole or not at all: look before you ask again")
 # How an object is given.
 MODES = ("owned", "shared", "unowned")
 
@@ -95,10 +96,10 @@ class Aborted(Error):
 
 class Ended(Error):
     """The program has ended and answers no more: `status`, `name`, the lines that it still wrote (`told`), and what became of the request
-    (`advice`)."""
+    in hand (`advice`). Of a batch `answered` has what the requests with a reply came to, by their places in it, from 0."""
 
     def __init__(self, status, told=()):
-        self.status, self.told = status, list(told)
+        self.status, self.told, self.answered = status, list(told), {}
         self.name, self.advice = ENDS.get(status, UNKNOWN_END)
         super().__init__("; ".join([f"the program ended: status {status} {self.name}: {self.advice}", *self.told]))
 
@@ -152,16 +153,27 @@ class Server:
 
     def batch(self, requests):
         """Asks 1 to 64 requests, each made by `Client.request`, in one line. Returns what each comes to, in their order: what its reply has as
-        `ok`, or its Refused or Aborted. Raises Refused where the line is, or Ended."""
+        `ok`, or its Refused or Aborted. Raises Refused where the line is, or Ended, which has what was answered before."""
         with self.turn:
             asked = [{**request, "id": next(self.numbers)} for request in requests]
             self.send(asked)
-            replies = [self.reply()]
-            if replies[0]["id"] is None:
-                raise outcome_of(replies[0])
-            replies.extend(self.reply() for _ in asked[1:])
-        outcomes = {reply["id"]: outcome_of(reply) for reply in replies}
-        return [outcomes[request["id"]] for request in asked]
+            outcomes = {}
+            try:
+                self.take_replies(asked, outcomes)
+            except Ended as ended:
+                ended.answered = outcomes
+                raise
+        return [outcomes[place] for place in range(len(asked))]
+
+    def take_replies(self, asked, outcomes):
+        """Takes the replies to a batch, and notes in `outcomes` what each request comes to, by its place. Raises Refused where the line is."""
+        places = {request["id"]: place for place, request in enumerate(asked)}
+        # A line that is refused, as one with an empty batch, has one reply.
+        for _ in asked or [None]:
+            reply = self.reply()
+            if reply["id"] is None:
+                raise outcome_of(reply)
+            outcomes[places[reply["id"]]] = outcome_of(reply)
 
     def send(self, value):
         """Writes a line."""

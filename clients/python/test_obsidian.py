@@ -20,6 +20,8 @@ from obsidian import Ref
 TOP = vending_machine.TOP
 DATA = os.path.join(TOP, "crates", "ob_conformance", "data")
 COMMAND = [os.path.join(TOP, "crates", "obsidian", "out", "obsidian")]
+# In the place of the program: it answers the second request of a batch, writes a part of the next reply, and ends as where the disk fails.
+ENDS_EARLY = [sys.executable, "-c", "input(); print('{\"id\":2,\"ok\":7}\\n{\"id\"', end=''); raise SystemExit(5)"]
 
 
 def serve(name, **how):
@@ -211,6 +213,13 @@ class EndsTest(unittest.TestCase):
             server.run.wait()
             self.assertIn("look before", self.ended(-signal.SIGKILL, "Crash", ann.call, "t", "add", 1).advice)
             self.ended(-signal.SIGKILL, "Crash", ann.call, "t", "add", 1)
+
+    def test_what_was_answered_of_a_batch_is_kept(self):
+        with obsidian.Server("tally.obs", command=ENDS_EARLY) as server:
+            see = server.client("ann").request("see", on="t")
+            ended = self.ended(5, "DiskFault", server.batch, [see, see, see])
+            self.assertEqual((ended.answered, ended.told), ({1: 7}, ['{"id"']))
+            self.assertEqual(self.ended(5, "DiskFault", server.batch, [see]).answered, {})
 
     def test_nothing_is_asked_after_the_end(self):
         server = serve("tally.obs")
