@@ -5,11 +5,11 @@
   python3 docs/cases.py [--program PROGRAM] [--asked CASE_PROGRAM] --answer < SHEET
 
 It runs the sheets of `crates/ob_conformance/data/index.txt` but for those that the index marks `named`, or those that are named alone; with
-`SHEET:WORDS` the cases of that sheet whose title has these words. The program is the one that the gate has left in `crates/obsidian/out`, if none is named. What it doesn't show is asked
-of the case program, which the gate has left in `crates/ob_conformance/out`; if none is named, it is the one that the same compiler has made.
-It says of each sheet how many cases agree, shows those that don't, and ends with how many agree of all. The status is 1 where one
-doesn't agree, where a sheet can't be read, or where a sheet of the folder isn't in the index just once. With `--answer` it reads a sheet
-from standard input, and writes what comes of each case in place of comparing it.
+`SHEET:WORDS` the cases of that sheet whose title has these words. The program is the one that the gate has left in `crates/obsidian/out`, if
+none is named. What it doesn't show is asked of the case program, which the gate has left in `crates/ob_conformance/out`; if none is named, it
+is the one that the same compiler has made. It says of each sheet how many cases agree, shows those that don't, and ends with how many agree of
+all. The status is 1 where one doesn't agree, where a sheet can't be read, or where a sheet of the folder isn't in the index just once. With
+`--answer` it reads a sheet from standard input, and writes what comes of each case in place of comparing it.
 
 How cases are written, and what each kind asks, says `crates/ob_conformance/data/README.md`. Each case has a folder of its own, with the text
 in the file `p`. Its input is a file whose offset tells how much of it was read: all of it where `serve` ends with `Done`, and nothing where

@@ -16,7 +16,9 @@ import sys
 from dataclasses import dataclass, field
 
 # The names in the project on which this file depends: files of definitions are CRATE/FILE, all others CRATE/src/FILE.rt.
-TOP_FILE, TOP_CALL, NUMBERS, NUMBERS_IN_CODE, SITES, RULES, CASES, PREMISES = "ob_run/src/top.rt", "run", "ob_base/Faults", "ob_base/src/fault.rt", "ob_resolve_spec/Sites", "ob_flow_spec/Deriving", "ob_conformance", ("one", "must")
+TOP_FILE, TOP_CALL = "ob_run/src/top.rt", "run"
+NUMBERS, NUMBERS_IN_CODE, SITES, RULES = "ob_base/Faults", "ob_base/src/fault.rt", "ob_resolve_spec/Sites", "ob_flow_spec/Deriving"
+CASES, PREMISES = "ob_conformance", ("one", "must")
 
 TOP = pathlib.Path(__file__).resolve().parent.parent
 CRATES = TOP / "crates"

@@ -3,13 +3,12 @@
 
   python3 docs/kill.py [--times N] [--seed N] [--full] [--program PROGRAM]
 
-Each time it starts `PROGRAM serve P STORE` (`./obsidian` at the top of the repository, if none is named) over one store, hands it lines
-that each split a part from a purse or merge one into it, and kills it by SIGKILL: half the times after a number of replies, half after a
-while, both drawn at random. Then, without a look at the store, it does so with a second run, and opens the store by a third one. It is an
-error where the store isn't opened, where a line isn't there of whose reply a byte was written, where a split isn't of the object that
-its reply names, where a line is there and one before it isn't, where more is there than the line in hand, or where the amounts of all
-money don't add up to what was minted. It tells the first error and ends with status 1; else it tells how many lines were handed over,
-answered and kept.
+Each time it starts `PROGRAM serve P STORE` (the one that the gate has left, if none is named) over one store, hands it lines that each
+split a part from a purse or merge one into it, and kills it by SIGKILL: half the times after a number of replies, half after a while, both
+drawn at random. Then, without a look at the store, it does so with a second run, and opens the store by a third one. It is an error where
+the store isn't opened, where a line isn't there of whose reply a byte was written, where a split isn't of the object that its reply names,
+where a line is there and one before it isn't, where more is there than the line in hand, or where the amounts of all money don't add up to
+what was minted. It tells the first error and ends with status 1; else it tells how many lines were handed over, answered and kept.
 
 With `--full` it fills the area in which the store stands before each time, but for a few records, so that the runs that are killed move into the
 other one. It fills it with records that take away handles which aren't there.
@@ -27,6 +26,7 @@ import threading
 import time
 
 TOP = os.path.dirname(os.path.dirname(os.path.abspath(__file__)))
+PROGRAM = os.path.join(TOP, "crates", "obsidian", "out", "obsidian")
 MONEY = os.path.join(TOP, "crates", "ob_conformance", "data", "money.obs")
 # How much money there is.
 MINTED = 1_000_000_000
@@ -216,7 +216,7 @@ def main():
     parser.add_argument("--times", type=int, default=200)
     parser.add_argument("--seed", type=int, default=1)
     parser.add_argument("--full", action="store_true")
-    parser.add_argument("--program", default=os.path.join(TOP, "obsidian"))
+    parser.add_argument("--program", default=PROGRAM)
     given = parser.parse_args()
     with tempfile.TemporaryDirectory() as folder:
         store = os.path.join(folder, "store")

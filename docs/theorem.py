@@ -31,7 +31,7 @@ LAYER = {
     "ob_run": "What each status says of a run",
     "ob_serve": "A session: lines, their items, replies and the store, one after another",
     "ob_owners": "What an audit counts",
-    "ob_store": "What a store holds that is only read",
+    "ob_store": "A disk of which no byte changed, and what a store holds that is only read",
     "ob_words": "The words of the command line",
     "ob_io": "Files, the input and the output",
     "ob_store_spec": "When bytes represent a store, and what a line changes",
