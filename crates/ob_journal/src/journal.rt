@@ -15,7 +15,7 @@ use ob_base::Memory;
 use ob_disk::Disk;
 use std::alloc::Global;
 
-/// Where the records of a store stand on a disk: in which of two areas of one size, and how far. It keeps no payload, and up to 2 MiB of
+/// Where the records of a store stand on a disk: in which of two areas of one size, and how far. It keeps no payload, and up to 16 MiB of
 /// memory for the next move.
 #[derive(Drop)]
 pub struct Journal {

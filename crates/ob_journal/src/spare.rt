@@ -5,7 +5,7 @@ use std::alloc::Global;
 use std::cell::Cell;
 
 // How many bytes of it are kept at most.
-const MOST_KEPT: usize = 2_097_152;
+const MOST_KEPT: usize = 16_777_216;
 
 /// Memory for the next move. The system gives new memory page by page, which takes longer than to write into some that is there.
 /// Nothing that it holds is read.
@@ -31,7 +31,7 @@ impl Spare {
         bytes
     }
 
-    /// Keeps memory that isn't used any more, 2 MiB of it at most.
+    /// Keeps memory that isn't used any more, 16 MiB of it at most.
     pub fn keep(&self, bytes: Vec<u8>) {
         let mut bytes = bytes;
         bytes.clear();
