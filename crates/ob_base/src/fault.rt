@@ -46,11 +46,11 @@ pub const LONG_PROGRAM: u16 = 109;
 pub const EXPECTED: u16 = 201;
 /// Parts are nested too deep.
 pub const TOO_DEEP: u16 = 202;
-/// The name stands for nothing that is visible.
+/// The name denotes nothing that is visible.
 pub const UNKNOWN_NAME: u16 = 301;
 /// A second thing of one name.
 pub const DUPLICATE: u16 = 302;
-/// The name stands for a thing of another kind.
+/// The name denotes a thing of another kind.
 pub const WRONG_KIND: u16 = 303;
 /// The contract has no such state.
 pub const NO_STATE: u16 = 304;
@@ -86,7 +86,7 @@ pub const PARAM_COUNT: u16 = 323;
 pub const NOT_OWNING: u16 = 401;
 /// The object may be in another state.
 pub const WRONG_STATE: u16 = 402;
-/// The reference isn't shared.
+/// A shared reference is wanted, and this one is Unowned.
 pub const NOT_SHARED: u16 = 403;
 /// An asset would be lost.
 pub const ASSET_LOST: u16 = 404;
@@ -100,7 +100,7 @@ pub const THIS_DIFFERS: u16 = 407;
 pub const NOT_ACCESSIBLE: u16 = 408;
 /// The field isn't as it is declared.
 pub const FIELD_MISMATCH: u16 = 409;
-/// What is read has no value.
+/// A place has no value where one is needed.
 pub const UNSET: u16 = 410;
 /// What is held at the end isn't what was promised.
 pub const EXIT_MISMATCH: u16 = 411;
@@ -110,9 +110,9 @@ pub const TEST_UNOWNED: u16 = 412;
 pub const TEST_TWICE: u16 = 413;
 /// What is under test would be handed on or changed.
 pub const UNDER_TEST: u16 = 414;
-/// A transaction that doesn't hold `this` changes it.
+/// What is changed is of an Unowned `this`.
 pub const VIEW_CHANGES: u16 = 415;
-/// One reference is used twice, and one use takes it.
+/// A reference is used twice where one use takes it, `this` would own itself by a field, or a field is lent to a call on `this`.
 pub const USED_TWICE: u16 = 416;
 /// A constructor uses `this`.
 pub const THIS_IN_CONSTRUCTOR: u16 = 417;

@@ -1,4 +1,4 @@
-//! Numbers that stand for things.
+//! Numbers that represent things.
 
 /// A contract or an interface of a program, by its place among them, from 0.
 #[derive(Clone, Copy)]

@@ -1,4 +1,4 @@
--- What the code's values of the trial stand for.
+-- What the code's values of the trial represent.
 use Rattle.ob_client.specs.Trials.{TrialClient, Wish, mint, bake, restock, buy}
 use Rattle.ob_client.specs.declared.trial.TrialClient.{TrialClient as CodeClient}
 use Rattle.ob_client.specs.declared.trial.Wish.{Wish as CodeWish}

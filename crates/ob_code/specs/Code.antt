@@ -44,6 +44,6 @@ contract_code image id = slice_get image.contracts id.0
 abbrev pub body_code : Image → ContractId → TxId → Option BodyCode
 body_code image contract tx = contract_code image contract >>= λ (c : ContractCode). slice_get c.bodies tx.0
 
--- the number of a slot that stands for none, where a call gives its result to no slot
+-- the number of a slot that represents none, where a call gives its result to no slot
 abbrev pub no_result : ℕ
 no_result = 255

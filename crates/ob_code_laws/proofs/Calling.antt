@@ -271,7 +271,7 @@ result_not_first : (k : ℕ) (b : Bool) → (k == no_result) ≡ b → ((if b th
 result_not_first k true e named zero_ = let same : k ≡ 255 = eqb-true k no_result e in omega arith
 result_not_first k false e named zero_ = named refl zero_
 
--- a slot of a body isn't the one that stands for no result
+-- a slot of a body isn't the one that represents no result
 slot_is_one : (image : Image) → SlotsFitByte image → (c : ContractId) (own : ContractCode) (tx : TxId) (b : BodyCode) (k : ℕ) → HasBody image c own tx b → k < b.slots → (k == no_result) ≡ false
 slot_is_one image bytes c own tx b k there lt = let le : b.slots ≤ 255 = bytes.each c own tx b there in ne_eqb k no_result (λ e. omega (arith, lt, le, e))
 

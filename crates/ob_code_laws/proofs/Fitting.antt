@@ -34,7 +34,7 @@ fits_cases image a b e = elim (or_cases (a.0 == b.0) (option_map_or (implements_
   | inr h ↦ inr (passes_some (implements_it b) (slice_get image.contracts a.0) h)
 ]
 
--- what stands for a contract that is no interface is that contract
+-- what represents a contract that is no interface is that contract
 pub fits_of_contract : (image : Image) → ImplementsInterfacesAlone image → (a b : ContractId) (own : ContractCode) → contract_code image b ≡ Some own → is_interface own ≡ false
     → fits_contract image a b ≡ true → a ≡ b
 fits_of_contract image imps a b own of contract e = elim (fits_cases image a b e) [

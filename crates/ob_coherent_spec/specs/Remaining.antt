@@ -115,7 +115,7 @@ IsPlaceIn b (field f) = f < field_count b
 abbrev pub LosesNone : ClassTable → Option Known → Option Known → Type 0
 LosesNone table x y = is_owned_asset table x ≡ true → owns (permission_on y) ≡ true
 
--- the second context may stand for the first: what agrees with the first agrees with it
+-- the second context may take the place of the first: what agrees with the first agrees with it
 pub record Leads (b : BodyFrame) (g j : Context) : Type 0 where
   pub known : (p : Location) (x : Option Cell) → Agrees (g p) x → Agrees (j p) x
   pub kept : (p : Location) → IsPlaceIn b p → LosesNone b.table (g p) (j p)

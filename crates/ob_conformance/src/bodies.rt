@@ -51,7 +51,7 @@ fn begin_call(call: &ResolvedCall, span: Span, page: &mut Page) {
     page.place(call.name);
 }
 
-// A value that is written in the text, or that a name stands for.
+// A value that is written in the text, or that a name denotes.
 fn put_literal(expr: &ResolvedExpr, page: &mut Page) {
     match expr {
         ResolvedExpr::Number { value, span } => {

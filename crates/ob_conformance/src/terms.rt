@@ -17,7 +17,7 @@ fn put_named(place: Place, page: &mut Page) {
     }
 }
 
-// A place that a term reads, and what it stands for in the text.
+// A place that a term reads, and what it represents in the text.
 fn put_operand(operand: Operand, page: &mut Page) {
     put_named(operand.place, page);
     page.place(operand.span);

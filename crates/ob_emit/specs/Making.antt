@@ -90,7 +90,7 @@ abbrev pub choice_of_state : EmissionFrame → Kinds → Operand → StateId →
 choice_of_state f kinds o state =
     choice.State (slot_read f.scratch 0 o.place) (contract_referred (kind_of_operand f.static (holding kinds) o)) state
 
--- what a form with branches chooses by; each other form has no choice, and any stands for it
+-- what a form with branches chooses by; each other form has no choice, and any will do
 abbrev pub choice_of_form : EmissionFrame → Kinds → SilicaForm → Choice
 choice_of_form f kinds (test_form o state branch other join) = choice_of_state f kinds o state
 choice_of_form f kinds (if_form o branch other join) = choice_of_value f o

@@ -58,7 +58,7 @@ use Rattle.ob_lower_correct.proofs.Standing.{at_same, at_other, none_some}
 
 -- Steps that are alike.
 
--- What a step of the machine comes to stands for what a Silica step comes to; of a configuration this is said only where more is so.
+-- What a step of the machine comes to represents what a Silica step comes to; of a configuration this is said only where more is so.
 abbrev pub AreAlike : SilicaProgram → (Configuration → Type 0) → NextStep → Option Next → Type 0
 AreAlike program So (goes d) x = So d → (m : machine.Configuration) × (x ≡ Some (machine.goes m)) × Matches program d m
 AreAlike program So (ended result w) x = (v : World) × (x ≡ Some (machine.stops (machine.ended result v))) × SameWorld w v

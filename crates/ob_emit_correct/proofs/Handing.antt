@@ -94,7 +94,7 @@ module _ {program : SilicaProgram} {form : SilicaForm} {span : Span} {rest : Sil
   abbrev pub ReadAs : List Operand → List Value → Type 0
   ReadAs os vs = read_values program.table (here c) (all_located os) ≡ Some vs
 
-  -- operands may stand for parameters
+  -- operands may take the place of parameters
   abbrev pub Pass : List Param → List Operand → Type 0
   Pass params os = ArePassed (around_forms x).static x.goes_on.holdings params os
 

@@ -152,12 +152,12 @@ pub record LeavesAs (program : SilicaProgram) (c : Configuration) (m : machine.C
   pub below : AllWaitFor program (kind_given_by program c.frame) c.stack m.top.into m.below
   pub world : SameWorld (world_after_ends outer c.world) (without_locks m.top.tests m.world)
 
--- the machine's configuration stands for that of the Silica run
+-- the machine's configuration represents that of the Silica run
 pub data Matches (program : SilicaProgram) (c : Configuration) (m : machine.Configuration) : Type 0 where
   as_running : RunsAs program c m → Matches program c m
   as_leaving : LeavesAs program c m → Matches program c m
 
--- What the machine does for a step: in some steps it comes to a configuration that stands for the next one, or to the same end.
+-- What the machine does for a step: in some steps it comes to a configuration that represents the next one, or to the same end.
 abbrev pub DoesTo : SilicaProgram → Phase → NextStep → Type 0
 DoesTo program p (goes d) =
     (n : ℕ) × (m : machine.Configuration) × (after_steps (code_of program) n p ≡ Some (paused (running m))) × Matches program d m

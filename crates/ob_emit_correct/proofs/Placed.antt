@@ -103,7 +103,7 @@ module _ {program : SilicaProgram} {c : Configuration} {m : machine.Configuratio
 
 -- Where a form is about to be run.
 
--- A coherent configuration is about to run a form, and the machine stands for it.
+-- A coherent configuration is about to run a form, and the machine represents it.
 pub record FormStep (program : SilicaProgram) (form : SilicaForm) (span : Span) (rest : SilicaTerms) (outer : List Rest)
     (c : Configuration) (m : machine.Configuration) : Type 0 where
   pub checked : IsCheckedProgram program

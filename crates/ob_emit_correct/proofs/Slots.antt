@@ -211,7 +211,7 @@ module _ {program : SilicaProgram} {c : Configuration} {m : machine.Configuratio
   abbrev pub count_framed : ℕ
   count_framed = slots_in program c.frame.contract c.frame.tx y.has
 
-  -- slots of the machine that stand for those of the frame
+  -- slots of the machine that represent those of the frame
   abbrev pub StandingFor : Slots → Type 0
   StandingFor slots = SameSlots scratch_framed count_framed c.frame.slots slots
 
@@ -276,7 +276,7 @@ module _ {program : SilicaProgram} {c : Configuration} {m : machine.Configuratio
       }
 
   -- From a place with these slots, in a world, operands are loaded, of which the first has this number: then these are their values,
-  -- slots below theirs are as they were, and those of the machine stand for those of the frame.
+  -- slots below theirs are as they were, and those of the machine represent those of the frame.
   pub record LoadedFrom (place : ℕ) (slots : Slots) (w : World) (n : ℕ) (os : List Operand) (vs : List Value) : Type 0 where
     pub into : Slots
     pub same : StandingFor into
@@ -341,7 +341,7 @@ module _ {program : SilicaProgram} {form : SilicaForm} {span : Span} {rest : Sil
   pub form_slots : slots_of_form form ≤ scratch
   form_slots = let e = x.goes_on.stands.emitted.slots in omega (arith, e)
 
-  -- slots of the machine that stand for those of the frame
+  -- slots of the machine that represent those of the frame
   abbrev pub Standing : Slots → Type 0
   Standing slots = SameSlots scratch (slot_count x) c.frame.slots slots
 

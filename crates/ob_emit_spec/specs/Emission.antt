@@ -163,7 +163,7 @@ change_code own scratch state given =
     loads scratch 0 (values_given given)
     ++ instruction.Change state (given_slots scratch 0 given) ∷ shares_of_given own (given_slots scratch 0 given)
 
--- Branches. Early stops are jumps ahead.
+-- Branches. A choice is a jump forward over the branch that isn't run; `&&` and `||` are such choices too.
 
 -- whether a branch ends with a jump over the other one: its end is reached, and the other one has terms
 abbrev pub jumps_over : SilicaTerms → SilicaTerms → Bool

@@ -2,7 +2,7 @@
 use Rattle.std.proofs.Common.{◌≡◌, ℕ, ◌+◌, ◌<◌, List, [], ◌∷◌, ◌++◌, length, Some, Bool, true, false, Contains, refl, sym, ap, subst, arith, inl, inr, length-append}
 use Rattle.ob_code.specs.declared.instruction.Instruction.{Instruction}
 use Rattle.ob_code.specs.declared.instruction.Instruction.TheVariants as is
-use Rattle.ob_verify_spec.specs.Conditions.{is_fuelled}
+use Rattle.ob_verify_spec.specs.Conditions.{is_ahead_or_unit}
 use Rattle.ob_verify_spec.specs.Frames.{CodeFrame}
 use Rattle.ob_verify_spec.specs.Instructions.{KindsOfSlots, targets, leads, keeps, done, effect}
 use Rattle.ob_verify_spec.specs.Calling.{ImplementsInterfacesAlone}
@@ -69,13 +69,13 @@ certified_choice f alone at x branch other before first between second after bra
     }
 
 pub jump_checked : (f : CodeFrame) (t : Table) (at to : ℕ) (held : KindsOfSlots) → IsSound f held (is.Jump to) → t at ≡ Some held
-    → is_fuelled f at to ≡ true
+    → is_ahead_or_unit f at to ≡ true
     → MayCome f.image t to held → IsChecked f t at (is.Jump to)
 jump_checked f t at to held sound there fuelled come = record {
   known = held;
   there = there;
   sound = sound;
-  fuelled = λ j c. subst (λ z. is_fuelled f at z ≡ true) (only to j c) fuelled;
+  fuelled = λ j c. subst (λ z. is_ahead_or_unit f at z ≡ true) (only to j c) fuelled;
   leads_on = λ j c. come_to f.image t to j held (only to j c) come;
 }
 

@@ -20,7 +20,7 @@ use Rattle.ob_verify_spec.specs.declared.CodeFault.TheVariants.{BadJump, BadSlot
 use Rattle.ob_verify_spec.specs.Kinds.{implements_number, fits, is_plain_interface, interface_declared, interface_of_contract, BelongsTo}
 use Rattle.ob_verify_spec.specs.Frames.{CodeFrame}
 use Rattle.ob_verify_spec.specs.Instructions.{KindsOfSlots, targets, leads, Need, slots_needed, meets, needs, done, effect}
-use Rattle.ob_verify_spec.specs.Conditions.{is_within, is_fuelled, bad_jump, no_fuel_mark, lacks_slots}
+use Rattle.ob_verify_spec.specs.Conditions.{is_within, is_ahead_or_unit, bad_jump, no_fuel_mark, lacks_slots}
 use Rattle.ob_verify_spec.specs.Calling.{ImplementsInterfacesAlone, ImplementsWhatIsThere}
 use Rattle.ob_verify_spec.specs.Ways.{IsAt, at_entry, Way, start, step, Mismatch, unmet, differs, Holds, IsFaultless}
 use Rattle.ob_verify_spec.proofs.Cells.{none_some, some_same}
@@ -107,7 +107,7 @@ jumps_well f c i x at =
     lt-ltb t (length f.body.instructions) (within_body f c t come.known come.there)))
 
 jumps_fuelled : (f : CodeFrame) (c : IsCertifiedBody f) (i : ℕ) (x : Instruction) → IsAt f i x → no_fuel_mark f i x ≡ false
-jumps_fuelled f c i x at = ap not (all_pass (is_fuelled f i) (targets x) (checked_at f c i x at).fuelled)
+jumps_fuelled f c i x at = ap not (all_pass (is_ahead_or_unit f i) (targets x) (checked_at f c i x at).fuelled)
 
 enough_at : (f : CodeFrame) (i : ℕ) → lacks_slots f 0 ≡ false → lacks_slots f i ≡ false
 enough_at f zero e = e
@@ -179,7 +179,7 @@ there_passes : {A : Type 0} (test : A → Bool) (o : Option A) → option_map_or
 there_passes test None e = absurd (true≢false (sym e))
 there_passes test (Some x) e = (x, refl, e)
 
--- what stands for a kind belongs to it, where each interface that is implemented is there and implements none
+-- what may take the place of a kind belongs to it, where each interface that is implemented is there and implements none
 none_implemented : (m : Image) → ImplementsInterfacesAlone m → (d : ContractId) (own : ContractCode) (n : ℕ)
     → contract_code m d ≡ Some own → is_interface own ≡ true → own.implements ≡ n → n ≡ 0
 none_implemented m alone d own zero there interface e = refl

@@ -11,18 +11,18 @@ use Rattle.ob_code.specs.declared.instruction.Instruction.TheVariants as is
 use Rattle.ob_verify_spec.specs.Kinds.{fits}
 use Rattle.ob_verify_spec.specs.Frames.{CodeFrame}
 use Rattle.ob_verify_spec.specs.Instructions.{KindsOfSlots, targets, leads, Need, meets, needs, Effect, keeps, sets, copies, set_slot, done, effect}
-use Rattle.ob_verify_spec.specs.Conditions.{names_bad_slot, bad_field, bad_call, is_unit, is_fuelled}
+use Rattle.ob_verify_spec.specs.Conditions.{names_bad_slot, bad_field, bad_call, is_unit, is_ahead_or_unit}
 use Rattle.ob_verify_spec.specs.Calling.{ImplementsInterfacesAlone}
 use Rattle.ob_verify_spec.proofs.Listed.{not_empty, only}
 use Rattle.ob_verify_spec.proofs.Fitting.{fits_self, fits_all}
 
--- Kinds that stand for others.
+-- Kinds that may take the place of others.
 
--- a value of the first kind stands for one of the second
+-- a value of the first kind may take the place of one of the second
 abbrev pub Serves : Image → Kind → Kind → Type 0
 Serves m y x = fits m y x ≡ true
 
--- each slot of which a kind is known holds a value of a kind that stands for it
+-- each slot of which a kind is known holds a value of a kind that may take its place
 abbrev pub Fit : Image → KindsOfSlots → KindsOfSlots → Type 0
 Fit m known s = (k : ℕ) (x : Kind) → known k ≡ Some x → (y : Kind) × (s k ≡ Some y) × Serves m y x
 
@@ -68,7 +68,7 @@ stands_back code at (i ∷ a) b h =
     subst (λ n. StandsAt code n b) e (stands_back code (at + 1) a b h.1)
 
 -- a place ahead needs no unit
-pub fuelled_ahead : (f : CodeFrame) (i j : ℕ) → i < j → is_fuelled f i j ≡ true
+pub fuelled_ahead : (f : CodeFrame) (i j : ℕ) → i < j → is_ahead_or_unit f i j ≡ true
 fuelled_ahead f i j lt = ap (λ b. b || option_map_or is_unit (slice_get f.body.instructions j) false) (lt-ltb i j lt)
 
 or_second : (a b : Bool) → b ≡ true → (a || b) ≡ true
@@ -76,7 +76,7 @@ or_second true b e = refl
 or_second false b e = e
 
 -- nor does one where a unit stands
-pub fuelled_unit : (f : CodeFrame) (i j : ℕ) → slice_get f.body.instructions j ≡ Some is.Unit → is_fuelled f i j ≡ true
+pub fuelled_unit : (f : CodeFrame) (i j : ℕ) → slice_get f.body.instructions j ≡ Some is.Unit → is_ahead_or_unit f i j ≡ true
 fuelled_unit f i j e =
     or_second (nat_lt i j) (option_map_or is_unit (slice_get f.body.instructions j) false) (ap (λ x. option_map_or is_unit x false) e)
 
@@ -109,7 +109,7 @@ pub record IsChecked (f : CodeFrame) (t : Table) (at : ℕ) (x : Instruction) : 
   pub known : KindsOfSlots
   pub there : t at ≡ Some known
   pub sound : IsSound f known x
-  pub fuelled : (j : ℕ) → Contains (targets x) j → is_fuelled f at j ≡ true
+  pub fuelled : (j : ℕ) → Contains (targets x) j → is_ahead_or_unit f at j ≡ true
   pub leads_on : (j : ℕ) → Contains (leads at x) j → MayCome f.image t j (done (effect f x) known)
 
 -- the same of instructions from a place on

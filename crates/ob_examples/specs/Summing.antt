@@ -1,4 +1,4 @@
--- A loop that adds the numbers up to one (this project's own program).
+-- A loop that adds the numbers from 1 up to a given one (this project's own program).
 use Rattle.std.specs.Prelude.{ℕ, pos, false, true, List, [], ◌∷◌, Some, None}
 use Rattle.ob_table.specs.declared.operator.BinaryOperator.TheVariants.{Add, Less}
 use Rattle.ob_table.specs.Statements.{Statement, resolved_declare, resolved_assign, resolved_while, resolved_return, resolved_block, statements}

@@ -1,4 +1,4 @@
--- The loop that adds the numbers up to one as terms (this project's own program).
+-- The loop that adds the numbers from 1 up to a given one, as terms (this project's own program).
 use Rattle.std.specs.Prelude.{ℕ, pos, [], ◌∷◌, Option, Some}
 use Rattle.ob_table.specs.declared.operator.BinaryOperator.{BinaryOperator}
 use Rattle.ob_table.specs.declared.operator.BinaryOperator.TheVariants.{Add, Less}

@@ -39,7 +39,7 @@ pub fn lamp_lowers()
     ensures steps_refused { by_steps 4 [] ≡ Some tells_wrong }
 {}
 
-/// A loop that adds the numbers up to one: its body may be lowered to its terms. With 17 units it gives the sum of the
+/// A loop that adds the numbers from 1 up to a given one: its body may be lowered to its terms. With 17 units it gives the sum of the
 /// numbers up to four, by the source meaning and by steps, and with 16 it aborts.
 pub fn sums_lower()
     ensures lowers { AllLower summing summing.bodies summing_terms.bodies }

@@ -18,7 +18,7 @@ use Rattle.ob_exec_handles.specs.Coming.{ComesTo}
 use Rattle.ob_exec_handles.specs.Spending.{item_of, SpendsSo}
 use Rattle.ob_exec_handles.specs.declared.answered.Answered.{Answered}
 use Rattle.ob_exec_handles.specs.declared.spent.Spent.{Spent}
-use Rattle.ob_exec.specs.Pausing.{StandsAt, StandsFor, LeadsBy, SliceLeads}
+use Rattle.ob_exec.specs.Pausing.{StandsAt, RunRepresents, LeadsBy, SliceLeads}
 use Rattle.ob_exec.specs.declared.stage.Paused.{Paused}
 use Rattle.ob_exec.specs.declared.stage.SliceEnd.{SliceEnd}
 use Rattle.ob_exec.specs.declared.stage.Stage.{Stage}
@@ -31,7 +31,7 @@ pub record IsAnswer (base : Stored) (i : Invocation) (told : Answered) (spent : 
   pub spends : SpendsSo i spent
 
 answered_by : (image : Image) (base : Stored) (r : Run) (i : Invocation) (told : Answered) (s : State) (spent : Spent) → RunComesTo (content_of base) i r
-    → StandsAt image base r (stage.Answered told) → StandsFor image base r s → spent.taken ≡ s.taken → map item_of spent.reads ≡ s.reads → IsAnswer base i told spent
+    → StandsAt image base r (stage.Answered told) → RunRepresents image base r s → spent.taken ≡ s.taken → map item_of spent.reads ≡ s.reads → IsAnswer base i told spent
 answered_by image base (opened q) i told s spent comes at k e f = absurd at
 answered_by image base (paused q reads p h) i told s spent comes at k e f = absurd at
 answered_by image base (answered a) i told s spent comes at k e f = record {
@@ -41,7 +41,7 @@ answered_by image base (answered a) i told s spent comes at k e f = record {
 answered_by image base lost i told s spent comes at k e f = absurd at
 
 pub whole_answers : (image : Image) (fuel : ℕ) (base : Stored) (q : Request) (told : Answered) (s : State) (spent : Spent) → LeadsAheadOrToUnit image
-    → StandsFor image base (slice image fuel (content_of base) fuel (opened q)) s → s.stage ≡ stage.Answered told → spent.taken ≡ s.taken
+    → RunRepresents image base (slice image fuel (content_of base) fuel (opened q)) s → s.stage ≡ stage.Answered told → spent.taken ≡ s.taken
     → map item_of spent.reads ≡ s.reads → IsAnswer base (machine_invocation image (content_of base) q fuel) told spent
 whole_answers image fuel base q told s spent ahead k is e f =
     let r = slice image fuel (content_of base) fuel (opened q) in
@@ -85,7 +85,7 @@ told_so image fuel base q result s told spent ahead k is =
 
 -- where a run goes on it stands in its stage
 pub stands_on : (image : Image) (base : Stored) (r : Run) (items : List ReadItem) (taken : ℕ) (s : Stage) → LeadsBy image base r None items taken s
-    → StandsFor image base r (record { stage = s; reads = items; taken = taken })
+    → RunRepresents image base r (record { stage = s; reads = items; taken = taken })
 stands_on image base r items taken (stage.Paused p) k = k
 stands_on image base r items taken (stage.Answered told) k = absurd k
 stands_on image base r items taken stage.Over k = absurd k

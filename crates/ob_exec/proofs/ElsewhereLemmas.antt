@@ -52,7 +52,7 @@ use Rattle.ob_wire.specs.declared.request.Op.TheVariants.{New, Call, Disown, Giv
 use Rattle.ob_exec_entries.specs.Entering.{use_of}
 use Rattle.ob_exec_handles.proofs.SpendingLemmas.{all_itself, all_left, all_right}
 use Rattle.ob_exec.specs.Laws.{IsPaused, PausedRunsStandElsewhere}
-use Rattle.ob_exec.specs.Pausing.{StandsPaused, StandsAt, StandsFor, run_of}
+use Rattle.ob_exec.specs.Pausing.{StandsPaused, StandsAt, RunRepresents, run_of}
 use Rattle.ob_exec.specs.declared.runs.Run.{Run as CodeRun}
 use Rattle.ob_exec.specs.declared.stage.Paused.{Paused}
 use Rattle.ob_exec.specs.declared.stage.Stage.{Stage}
@@ -321,15 +321,15 @@ stage_by : (image : Image) (fuel : ℕ) (base other : Stored) (given : List ℕ)
     → IsStoreAtRest (table_of_image image) (content_of base)
     → KeepsStoreAtRest (table_of_image image) (machine_invocation image (content_of base) (request_of run.request) fuel)
     → IsPaused t → AgreeOn run.state.reads (content_of base) (content_of other) → run.state.stage ≡ t
-    → StandsFor image base (run_of image fuel base given run.request) run.state
-    → StandsFor image other (run_of image fuel other given run.request) run.state
+    → RunRepresents image base (run_of image fuel base given run.request) run.state
+    → RunRepresents image other (run_of image fuel other given run.request) run.state
 stage_by image fuel base other given run (stage.Paused s) ahead rest keeps is agree e k =
     let r = run_of image fuel base given run.request in
     let so = slices_so image fuel (content_of base) (request_of run.request) (machine_invocation image (content_of base) (request_of run.request) fuel) given
     (opened (request_of run.request)) ahead (refl, refl) in
     let there = stands_by image fuel base other given run r s ahead rest keeps refl so
     (agree_less (reads_of_run r) run.state.reads (content_of base) (content_of other) k.reads.0 agree) (subst (StandsAt image base r) e k.at) in
-    subst (λ x. StandsFor image other x run.state) (sym there.0)
+    subst (λ x. RunRepresents image other x run.state) (sym there.0)
     (record { at = subst (StandsAt image other r) (sym e) there.1; reads = k.reads; taken = k.taken })
 stage_by image fuel base other given run (stage.Answered a) ahead rest keeps is agree e k = absurd is
 stage_by image fuel base other given run stage.Over ahead rest keeps is agree e k = absurd is

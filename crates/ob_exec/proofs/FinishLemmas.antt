@@ -30,7 +30,7 @@ use Rattle.ob_exec_handles.specs.Coming.{ComesTo}
 use Rattle.ob_exec_handles.specs.declared.answered.Answered.{Answered}
 use Rattle.ob_exec_handles.proofs.SpendingLemmas.{all_itself, all_on, all_both, all_left, all_right, onward_puts}
 use Rattle.ob_exec.specs.Going.{Asked, AreThose, IsEnd, ended_so}
-use Rattle.ob_exec.specs.Pausing.{StandsFor}
+use Rattle.ob_exec.specs.Pausing.{RunRepresents}
 use Rattle.ob_exec.specs.Putting.{LeaveTheSame}
 use Rattle.ob_exec.specs.Reading.{given_read}
 use Rattle.ob_exec.specs.declared.stage.Stage.TheVariants as stage
@@ -92,7 +92,7 @@ pub finishes : (image : Image) (base : Stored) (who : List ℕ) (into : Option (
     → ((v : World) (rs : List ReadItem) → v.objects ≡ objects_over base.objects o
     → ComesTo (done_with (reply_of_result (option_map value_of value)) (content_of base) puts v rs) base answered.answer answered.delta)
     → reads ≡ noted ++ given_read (length base.objects) into given (option_map value_of value)
-    → StandsFor image base (ended_so base a (option_map value_of value) w) (record { stage = stage.Answered answered; reads = reads; taken = taken })
+    → RunRepresents image base (ended_so base a (option_map value_of value) w) (record { stage = stage.Answered answered; reads = reads; taken = taken })
 finishes image base who into uses given value o taken noted reads a w puts answered k end leave told told_reads =
     let c = content_of base in
     let result = option_map value_of value in
@@ -109,7 +109,7 @@ finishes image base who into uses given value o taken noted reads a w puts answe
 
 pub aborts : (image : Image) (base : Stored) (cause : Cause) (taken : ℕ) (items reads : List ReadItem) (answered : Answered)
     → AbortsSo (table_of_image image) base cause answered.answer answered.delta → ReadSame items reads
-    → StandsFor image base (unchanged (aborted (cause_of cause) (told_state (table_of_image image) (content_of base).objects (cause_of cause))) taken items)
+    → RunRepresents image base (unchanged (aborted (cause_of cause) (told_state (table_of_image image) (content_of base).objects (cause_of cause))) taken items)
     (record { stage = stage.Answered answered; reads = reads; taken = taken })
 aborts image base cause taken items reads answered h same = record {
   at = subst (λ i. ComesTo i base answered.answer answered.delta)

@@ -50,7 +50,7 @@ use Rattle.ob_request_run_laws.proofs.Whole.{phase_twice, phase_reads, onto_self
 use Rattle.ob_exec_entries.specs.Entering.{use_of}
 use Rattle.ob_exec_handles.specs.Coming.{IsInLimits}
 use Rattle.ob_exec.specs.Going.{Asked, IsReached, IsAt, sliced_at, ended_so, IsEnd}
-use Rattle.ob_exec.specs.Pausing.{StandsFor}
+use Rattle.ob_exec.specs.Pausing.{RunRepresents}
 use Rattle.ob_exec.specs.declared.stage.Paused.{Paused}
 use Rattle.ob_exec.specs.declared.stage.Stage.TheVariants as stage
 use Rattle.ob_exec.proofs.ComingLemmas.{right_in_limits, within_limits}
@@ -207,7 +207,7 @@ paused_at : (image : Image) (base : Stored) (who : List ℕ) (into : Option (Lis
     (m : Machine) (o : Changes) (noted : List ReadItem) (taken : ℕ) (y : Phase) → IsAt image base who into s items a p
     → run_in image (steps_left image p) units p ≡ Some (paused y) → SamePhase y (phase_of m base.objects o) → KeepsUnread no_object s.overlay o
     → ReadSame (items ++ reads_of o) noted → taken ≡ (world_of (phase_of m base.objects o)).taken
-    → StandsFor image base (stops_so (table_of_image image) (content_of base) a.request a.entry a.reads (Some (paused y)))
+    → RunRepresents image base (stops_so (table_of_image image) (content_of base) a.request a.entry a.reads (Some (paused y)))
     (record { stage = stage.Paused (record { machine = m; overlay = o; uses = s.uses; given = s.given }); reads = noted; taken = taken })
 paused_at image base who into s items a p units m o noted taken y k h same keeps all t =
     let xs = (content_of base).objects in
@@ -236,7 +236,7 @@ paused_by : (image : Image) (base : Stored) (who : List ℕ) (into : Option (Lis
     (m : Machine) (o : Changes) (noted : List ReadItem) (taken : ℕ) (stop : Stop) → IsAt image base who into s items a p
     → run_in image (steps_left image p) units p ≡ Some stop → SameStop (Some stop) (Some (paused (phase_of m base.objects o))) → KeepsUnread no_object s.overlay o
     → ReadSame (items ++ reads_of o) noted → taken ≡ (world_of (phase_of m base.objects o)).taken
-    → StandsFor image base (stops_so (table_of_image image) (content_of base) a.request a.entry a.reads (Some stop))
+    → RunRepresents image base (stops_so (table_of_image image) (content_of base) a.request a.entry a.reads (Some stop))
     (record { stage = stage.Paused (record { machine = m; overlay = o; uses = s.uses; given = s.given }); reads = noted; taken = taken })
 paused_by image base who into s items a p units m o noted taken (paused y) k h same keeps all t =
     paused_at image base who into s items a p units m o noted taken y k h same keeps all t
@@ -246,11 +246,11 @@ pub goes_paused : (image : Image) (base : Stored) (who : List ℕ) (into : Optio
     (m : Machine) (o : Changes) (noted : List ReadItem) (taken : ℕ) → LeadsAheadOrToUnit image → IsAt image base who into s items a p
     → StopsSo image units (phase_of s.machine base.objects s.overlay) (stop_told m base.objects o Going) → KeepsUnread no_object s.overlay o
     → ReadSame (items ++ reads_of o) noted → taken ≡ (world_of (phase_of m base.objects o)).taken
-    → StandsFor image base (sliced_at image base units a p)
+    → RunRepresents image base (sliced_at image base units a p)
     (record { stage = stage.Paused (record { machine = m; overlay = o; uses = s.uses; given = s.given }); reads = noted; taken = taken })
 goes_paused image base who into s items a p units m o noted taken ahead k h keeps all t =
     let x = stops_at image base who into s items a p units (paused (phase_of m base.objects o)) ahead k h in
-    subst (λ r. StandsFor image base r
+    subst (λ r. RunRepresents image base r
     (record { stage = stage.Paused (record { machine = m; overlay = o; uses = s.uses; given = s.given }); reads = noted; taken = taken })) (sym x.is)
     (paused_by image base who into s items a p units m o noted taken x.stop k x.runs x.same keeps all t)
 

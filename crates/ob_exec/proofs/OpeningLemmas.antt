@@ -46,7 +46,7 @@ use Rattle.ob_exec_handles.specs.declared.spent.Spent.{Spent}
 use Rattle.ob_exec_handles.proofs.SpendingLemmas.{all_itself, all_on, all_right}
 use Rattle.ob_exec.specs.Bodies.{body_number}
 use Rattle.ob_exec.specs.Going.{Asked, Enters, IsBegun, IsAt, passed, tested, sliced_at}
-use Rattle.ob_exec.specs.Pausing.{StandsFor, LeadsBy, SliceLeads}
+use Rattle.ob_exec.specs.Pausing.{RunRepresents, LeadsBy, SliceLeads}
 use Rattle.ob_exec.specs.Standing.{running, ComesBy}
 use Rattle.ob_exec.specs.declared.stage.Paused.{Paused}
 use Rattle.ob_exec.specs.declared.stage.SliceEnd.{SliceEnd}
@@ -201,7 +201,7 @@ tested_fails image fuel base who into en items a units cause k h =
 
 pub answered_once : (image : Image) (base : Stored) (r : Run) (i : Invocation) (answer : Answer) (delta : Delta) (spent : Spent) → RunComesTo (content_of base) i r
     → HasEnded r → ComesTo i base answer delta → SpendsSo i spent
-    → StandsFor image base r (record { stage = stage.Answered (record { answer = answer; delta = delta }); reads = map item_of spent.reads; taken = spent.taken })
+    → RunRepresents image base r (record { stage = stage.Answered (record { answer = answer; delta = delta }); reads = map item_of spent.reads; taken = spent.taken })
 answered_once image base (opened q) i answer delta spent comes ends told spends = absurd ends
 answered_once image base (paused q reads p h) i answer delta spent comes ends told spends = absurd ends
 answered_once image base (answered a) i answer delta spent comes ends told spends =

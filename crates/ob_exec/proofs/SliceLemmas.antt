@@ -32,7 +32,7 @@ use Rattle.ob_exec_handles.specs.Coming.{IsInLimits}
 use Rattle.ob_exec_handles.specs.declared.answered.Answered.{Answered}
 use Rattle.ob_exec_handles.proofs.SpendingLemmas.{all_itself, all_on, all_right, same_items}
 use Rattle.ob_exec.specs.Going.{Asked, Enters, IsAt, tested, sliced_at}
-use Rattle.ob_exec.specs.Pausing.{StandsPaused, StandsAt, StandsFor, LeadsBy, into_of, Leads}
+use Rattle.ob_exec.specs.Pausing.{StandsPaused, StandsAt, RunRepresents, LeadsBy, into_of, Leads}
 use Rattle.ob_exec.specs.Putting.{AllStand}
 use Rattle.ob_exec.specs.Standing.{AreUsesRead}
 use Rattle.ob_exec.specs.declared.runs.SliceOutcome.TheVariants as slice_outcome
@@ -209,7 +209,7 @@ goes_on_by image fuel base who op i (answered a) s items so limits at same = abs
 goes_on_by image fuel base who op i lost s items so limits at same = absurd at
 
 pub goes_on_from : (image : Image) (fuel : ℕ) (base : Stored) (request : wire.Request) (i : Invocation) (r : Run) (s : Paused) (st : State)
-    → IsSoFar image fuel (content_of base) (request_of request) i r → IsInLimits i → StandsFor image base r st → st.stage ≡ stage.Paused s
+    → IsSoFar image fuel (content_of base) (request_of request) i r → IsInLimits i → RunRepresents image base r st → st.stage ≡ stage.Paused s
     → GoesOn image base request.who (into_of request.op) s st.reads r
 goes_on_from image fuel base request i r s st so limits k e =
     goes_on_by image fuel base request.who request.op i r s st.reads so limits (subst (StandsAt image base r) e k.at) k.reads
@@ -222,12 +222,12 @@ answered_by image fuel base (paused q reads p h) told units at = absurd at
 answered_by image fuel base (answered a) told units at = refl
 answered_by image fuel base lost told units at = refl
 
-pub answered_stays : (image : Image) (fuel : ℕ) (base : Stored) (r : Run) (told : Answered) (st : State) (units : ℕ) → StandsFor image base r st
+pub answered_stays : (image : Image) (fuel : ℕ) (base : Stored) (r : Run) (told : Answered) (st : State) (units : ℕ) → RunRepresents image base r st
     → st.stage ≡ stage.Answered told
-    → StandsFor image base (slice image fuel (content_of base) units r) (record { stage = stage.Answered told; reads = st.reads; taken = st.taken })
+    → RunRepresents image base (slice image fuel (content_of base) units r) (record { stage = stage.Answered told; reads = st.reads; taken = st.taken })
 answered_stays image fuel base r told st units k e =
     let at = subst (StandsAt image base r) e k.at in
-    subst (λ x. StandsFor image base x (record { stage = stage.Answered told; reads = st.reads; taken = st.taken })) (sym (answered_by image fuel base r told units at))
+    subst (λ x. RunRepresents image base x (record { stage = stage.Answered told; reads = st.reads; taken = st.taken })) (sym (answered_by image fuel base r told units at))
     (record { at = at; reads = k.reads; taken = k.taken })
 
 over_never : (image : Image) (base : Stored) (r : Run) → StandsAt image base r stage.Over → ⊥
@@ -236,26 +236,26 @@ over_never image base (paused q reads p h) at = at
 over_never image base (answered a) at = at
 over_never image base lost at = at
 
-pub never_over : (image : Image) (base : Stored) (r : Run) (st : State) → StandsFor image base r st → st.stage ≡ stage.Over → ⊥
+pub never_over : (image : Image) (base : Stored) (r : Run) (st : State) → RunRepresents image base r st → st.stage ≡ stage.Over → ⊥
 never_over image base r st k e = over_never image base r (subst (StandsAt image base r) e k.at)
 
 -- What a slice has led to.
 
-paused_by : (image : Image) (base : Stored) (r : Run) (s : Paused) (run : CodeRun) → StandsAt image base r (stage.Paused s) → StandsFor image base r run.state
+paused_by : (image : Image) (base : Stored) (r : Run) (s : Paused) (run : CodeRun) → StandsAt image base r (stage.Paused s) → RunRepresents image base r run.state
     → Leads image base r run slice_outcome.Paused
 paused_by image base (opened q) s run at k = absurd at
 paused_by image base (paused q reads p h) s run at k = k
 paused_by image base (answered a) s run at k = absurd at
 paused_by image base lost s run at k = absurd at
 
-pub leads_paused : (image : Image) (base : Stored) (r : Run) (s : Paused) (st : State) (run : CodeRun) → StandsFor image base r st → st.stage ≡ stage.Paused s
+pub leads_paused : (image : Image) (base : Stored) (r : Run) (s : Paused) (st : State) (run : CodeRun) → RunRepresents image base r st → st.stage ≡ stage.Paused s
     → run.state ≡ record { stage = stage.Paused s; reads = st.reads; taken = st.taken } → Leads image base r run slice_outcome.Paused
 leads_paused image base r s st run k e f =
     let at = subst (StandsAt image base r) e k.at in
-    paused_by image base r s run at (subst (StandsFor image base r) (sym f) (record { at = at; reads = k.reads; taken = k.taken }))
+    paused_by image base r s run at (subst (RunRepresents image base r) (sym f) (record { at = at; reads = k.reads; taken = k.taken }))
 
 ended_by : (image : Image) (base : Stored) (r : Run) (told : Answered) (st : State) (run : CodeRun) (reply : Reply) → StandsAt image base r (stage.Answered told)
-    → StandsFor image base r st → run.state.reads ≡ st.reads → run.state.taken ≡ st.taken → reply.id ≡ Some run.request.id → reply.answer ≡ told.answer
+    → RunRepresents image base r st → run.state.reads ≡ st.reads → run.state.taken ≡ st.taken → reply.id ≡ Some run.request.id → reply.answer ≡ told.answer
     → Leads image base r run (slice_outcome.Ended reply told.delta)
 ended_by image base (opened q) told st run reply at k e f id answer = absurd at
 ended_by image base (paused q reads p h) told st run reply at k e f id answer = absurd at
@@ -263,7 +263,7 @@ ended_by image base (answered a) told st run reply at k e f id answer =
     (id, (answer ∙ at.0, at.1), subst (ReadSame a.reads) (sym e) k.reads, f ∙ k.taken)
 ended_by image base lost told st run reply at k e f id answer = absurd at
 
-pub leads_ended : (image : Image) (base : Stored) (r : Run) (told : Answered) (st : State) (run : CodeRun) (reply : Reply) → StandsFor image base r st
+pub leads_ended : (image : Image) (base : Stored) (r : Run) (told : Answered) (st : State) (run : CodeRun) (reply : Reply) → RunRepresents image base r st
     → st.stage ≡ stage.Answered told → run.state.reads ≡ st.reads → run.state.taken ≡ st.taken → reply.id ≡ Some run.request.id → reply.answer ≡ told.answer
     → Leads image base r run (slice_outcome.Ended reply told.delta)
 leads_ended image base r told st run reply k e f g id answer =

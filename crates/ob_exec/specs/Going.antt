@@ -29,7 +29,7 @@ use Rattle.ob_exec_entries.specs.declared.entered.HandleUse.{HandleUse}
 use Rattle.ob_exec_handles.specs.Coming.{IsInLimits}
 use Rattle.ob_exec.specs.Bodies.{body_number}
 use Rattle.ob_exec.specs.Putting.{AllStand}
-use Rattle.ob_exec.specs.Standing.{StandsFor, AreUsesRead}
+use Rattle.ob_exec.specs.Standing.{EnteredRepresents, AreUsesRead}
 use Rattle.ob_exec.specs.declared.stage.Paused.{Paused}
 
 -- numbers that weren't noted: those behind the noted ones, or all
@@ -60,7 +60,7 @@ pub record Enters (image : Image) (fuel : ℕ) (base : Stored) (who : List ℕ) 
   pub client : a.request.who ≡ who
   pub enters : entry_of (table_of_image image) (content_of base) a.request.who a.request.operation ≡ Some a.entry
   pub those : AreThose base who into entered.uses entered.given a
-  pub stands : StandsFor (content_of base) who into entered a.entry
+  pub stands : EnteredRepresents (content_of base) who into entered a.entry
   pub noted : ReadSame a.reads items
   pub limits : IsInLimits (enter_entry (machine_meaning image) (table_of_image image) (content_of base) a.fuel a.reads a.entry)
 

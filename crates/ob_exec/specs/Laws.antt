@@ -13,7 +13,7 @@ use Rattle.ob_request_run_laws.specs.Runs.{opened}
 use Rattle.ob_request_run_laws.specs.Slices.{slice}
 use Rattle.ob_request_run_laws.specs.Laws.{AgreeOn}
 use Rattle.ob_wire.specs.Meanings.{request_of}
-use Rattle.ob_exec.specs.Pausing.{StandsFor, run_of}
+use Rattle.ob_exec.specs.Pausing.{RunRepresents, run_of}
 use Rattle.ob_exec.specs.declared.stage.Stage.{Stage}
 use Rattle.ob_exec.specs.declared.stage.Stage.TheVariants.{Paused, Answered, Over}
 use Rattle.ob_exec.specs.declared.runs.Run.{Run}
@@ -24,7 +24,7 @@ IsPaused (Paused s) = ⊤
 IsPaused (Answered a) = ⊥
 IsPaused Over = ⊥
 
--- A paused run stands for the run of its request also on what another store holds that agrees with the first on all that the run has
+-- A paused run represents the run of its request also on what another store holds that agrees with the first on all that the run has
 -- read so far. On the first the request doesn't go wrong, and leaves it at rest.
 abbrev pub PausedRunsStandElsewhere : Type 0
 PausedRunsStandElsewhere =
@@ -32,8 +32,8 @@ PausedRunsStandElsewhere =
     → LeadsAheadOrToUnit image → IsStoreAtRest (table_of_image image) (content_of base)
     → KeepsStoreAtRest (table_of_image image) (machine_invocation image (content_of base) (request_of run.request) fuel)
     → IsPaused run.state.stage → AgreeOn run.state.reads (content_of base) (content_of other)
-    → StandsFor image base (run_of image fuel base given run.request) run.state
-    → StandsFor image other (run_of image fuel other given run.request) run.state
+    → RunRepresents image base (run_of image fuel base given run.request) run.state
+    → RunRepresents image other (run_of image fuel other given run.request) run.state
 
 -- A first slice of no units changes nothing of what follows.
 abbrev pub FirstSlicesMayBeEmpty : Type 0

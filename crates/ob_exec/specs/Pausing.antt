@@ -49,17 +49,17 @@ StandsAt image base (paused q reads p h) (stage.Paused s) = StandsPaused image b
 StandsAt image base (answered a) (stage.Answered told) = ComesTo (invoked (invoked_by (content_of base) a)) base told.answer told.delta
 StandsAt image base r s = ⊥
 
--- The code's run stands for a plain one on what a store holds: it is as far, it has read the same items, in whatever order and however
+-- The code's run represents a plain one on what a store holds: it is as far, it has read the same items, in whatever order and however
 -- often, and has taken as many units.
-pub record StandsFor (image : Image) (base : Stored) (r : plain.Run) (s : State) : Type 0 where
+pub record RunRepresents (image : Image) (base : Stored) (r : plain.Run) (s : State) : Type 0 where
   pub at : StandsAt image base r s.stage
   pub reads : ReadSame (reads_of_run r) s.reads
   pub taken : s.taken ≡ taken_by_run r
 
--- A slice has led to an answer, or the code's run is paused in this stage, and it stands for a plain one so.
+-- A slice has led to an answer, or the code's run is paused in this stage, and it represents a plain one so.
 abbrev pub LeadsBy : Image → Stored → plain.Run → Option Answered → List ReadItem → ℕ → Stage → Type 0
-LeadsBy image base r (Some told) items taken s = StandsFor image base r (record { stage = stage.Answered told; reads = items; taken = taken })
-LeadsBy image base r None items taken (stage.Paused s) = StandsFor image base r (record { stage = stage.Paused s; reads = items; taken = taken })
+LeadsBy image base r (Some told) items taken s = RunRepresents image base r (record { stage = stage.Answered told; reads = items; taken = taken })
+LeadsBy image base r None items taken (stage.Paused s) = RunRepresents image base r (record { stage = stage.Paused s; reads = items; taken = taken })
 LeadsBy image base r None items taken s = ⊥
 
 -- what a slice has led to, where it has ended so and left the run in this stage
@@ -70,9 +70,9 @@ SliceLeads image base r end s = LeadsBy image base r end.answered end.reads end.
 abbrev pub run_of : Image → ℕ → Stored → List ℕ → wire.Request → plain.Run
 run_of image fuel base given request = slices image fuel (content_of base) given (opened (request_of request))
 
--- The code's run of a request stands for that run. The request doesn't go wrong there, and leaves no more objects than there may be.
+-- The code's run of a request represents that run. The request doesn't go wrong there, and leaves no more objects than there may be.
 pub record IsRunOn (image : Image) (fuel : ℕ) (base : Stored) (given : List ℕ) (request : wire.Request) (s : State) : Type 0 where
-  pub stands : StandsFor image base (run_of image fuel base given request) s
+  pub stands : RunRepresents image base (run_of image fuel base given request) s
   pub limits : IsInLimits (machine_invocation image (content_of base) (request_of request) fuel)
 
 -- the name for the handle on what a request gives, if it has one
@@ -84,7 +84,7 @@ into_of op = None
 -- What a slice leads to: the reply of the run's end and what differs in the store, once it has read and taken all; or the run, where it
 -- needs a unit past the slice.
 abbrev pub Leads : Image → Stored → plain.Run → Run → SliceOutcome → Type 0
-Leads image base (paused q reads p h) run slice_outcome.Paused = StandsFor image base (paused q reads p h) run.state
+Leads image base (paused q reads p h) run slice_outcome.Paused = RunRepresents image base (paused q reads p h) run.state
 Leads image base (answered a) run (slice_outcome.Ended reply delta) =
     (reply.id ≡ Some run.request.id) × ComesTo (invoked (invoked_by (content_of base) a)) base reply.answer delta
     × ReadSame a.reads run.state.reads × (run.state.taken ≡ a.taken)

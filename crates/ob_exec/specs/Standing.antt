@@ -13,8 +13,8 @@ use Rattle.ob_machine_meaning.specs.Meanings.{machine_meaning, entry_of_request}
 use Rattle.ob_exec_entries.specs.Entering.{use_of, machine_entry}
 use Rattle.ob_exec_entries.specs.declared.entered.Entered.{Entered}
 
--- What is entered stands for an entry of this client's request, with this name for the handle on what it gives.
-pub record StandsFor (content : Content) (who : List ℕ) (into : Option (List ℕ)) (entered : Entered) (e : Entry) : Type 0 where
+-- What is entered represents an entry of this client's request, with this name for the handle on what it gives.
+pub record EnteredRepresents (content : Content) (who : List ℕ) (into : Option (List ℕ)) (entered : Entered) (e : Entry) : Type 0 where
   pub client : e.who ≡ who
   pub name : e.into ≡ into
   pub machine : machine_entry entered ≡ entry_of_request content e
@@ -30,11 +30,11 @@ abbrev pub running : Image → Content → ℕ → Way
 running image content fuel reads e =
     ended (table_of_image image) content e reads (run_entry (machine_meaning image) content fuel e)
 
--- An invocation is what comes so of what this stands for.
+-- An invocation is what comes so of what this represents.
 pub record ComesBy (way : Way) (content : Content) (who : List ℕ) (into : Option (List ℕ)) (entered : Entered) (i : Invocation) : Type 0 where
   pub entry : Entry
   pub reads : List ReadItem
-  pub stands : StandsFor content who into entered entry
+  pub stands : EnteredRepresents content who into entered entry
   pub is : i ≡ way reads entry
 
 -- the object of each use was read

@@ -1,7 +1,7 @@
 //! Laws of the code's runs.
 ghost use Rattle.ob_exec.specs.Laws.{PausedRunsStandElsewhere, FirstSlicesMayBeEmpty};
 
-/// A paused run stands for the run of its request also on what a store holds after a change of nothing that the run has read.
+/// A paused run represents the run of its request also on what a store holds after a change of nothing that the run has read.
 pub fn paused_runs_stand_elsewhere()
     ensures { PausedRunsStandElsewhere }
 {}

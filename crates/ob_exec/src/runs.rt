@@ -12,7 +12,7 @@ ghost use Rattle.ob_exec_entries.specs.Naming.{IsNamesOf};
 ghost use Rattle.ob_exec_handles.specs.Coming.{IsInLimits};
 ghost use Rattle.ob_exec_handles.specs.Spending.{item_of};
 ghost use Rattle.ob_exec_handles.specs.declared.answered.Answered.{Answered as Told};
-ghost use Rattle.ob_exec.specs.Pausing.{StandsFor, IsRunOn, into_of, run_of, Leads, SliceLeads};
+ghost use Rattle.ob_exec.specs.Pausing.{RunRepresents, IsRunOn, into_of, run_of, Leads, SliceLeads};
 ghost use Rattle.ob_exec.specs.declared.stage.Stage.TheVariants.{Answered as AnsweredStage};
 
 use crate::answering::reply_to;
@@ -64,7 +64,7 @@ fn into_of<'a>(op: &'a Op, none: &'a Option<Label>) -> &'a Option<Label>
 
 // The state of a run that was opened.
 fn state_of(stage: Stage, end: SliceEnd) -> State
-    ensures { (image : Code) (base : Stored) (r : PlainRun) → SliceLeads image base r end stage → StandsFor image base r result }
+    ensures { (image : Code) (base : Stored) (r : PlainRun) → SliceLeads image base r end stage → RunRepresents image base r result }
 {
     let SliceEnd {
         answered,
@@ -144,7 +144,7 @@ impl Run {
         requires names { IsNamesOf names.now code.now }
         requires index { (n : ℕ) → I.owner index.now n ≡ owner_place (table_of_image code.now) (content_of content.now) n }
         requires right { IsInLimits (machine_invocation code.now (content_of content.now) (request_of request) fuel) }
-        ensures stands { IfOk result (λ run. StandsFor code.now content.now (run_of code.now fuel content.now (0 ∷ []) request) run.state) }
+        ensures stands { IfOk result (λ run. RunRepresents code.now content.now (run_of code.now fuel content.now (0 ∷ []) request) run.state) }
         ensures request { IfOk result (λ run. run.request ≡ request) }
     {
         let mut stage = Stage::Over;

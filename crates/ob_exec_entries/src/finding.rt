@@ -1,4 +1,4 @@
-//! What the names in a request stand for.
+//! What the names in a request denote.
 ghost use Rattle.std.specs.Prelude.{◌≡◌, map, option_map, IfSome};
 ghost use Rattle.ob_heap.specs.Contents.{content_of};
 ghost use Rattle.ob_heap.specs.Plain.{handle_of};

@@ -176,7 +176,7 @@ swapped : (b : Bool) (v : Handle) (x y : Option Handle) → cond b (Some v) (opt
 swapped true v x y = refl
 swapped false v x y = refl
 
--- a name stands for what is put, or else for what it did
+-- a name denotes what is put, or else what it denoted
 put_over : (ps xs ys zs : List Held) → ((q : Label × Label) → at q xs ≡ option_or (at q ys) (at q zs)) → (q : Label × Label)
     → at q (with_handles xs (changes_by ps)) ≡ option_or (at q (with_handles ys (changes_by ps))) (at q zs)
 put_over [] xs ys zs h q = h q

@@ -18,7 +18,7 @@ same_mode a b = false
 abbrev pub same_handle : Handle → Handle → Bool
 same_handle a b = nat_eq a.object.0 b.object.0 && same_mode a.mode b.mode
 
--- whether a name stands for this handle already
+-- whether a name denotes this handle already
 abbrev pub stands_so : List ((Label × Label) × Handle) → (Label × Label) × Handle → Bool
 stands_so base put = option_map_or (λ h. same_handle h put.1) (handle_at (name_of put.0) base) false
 

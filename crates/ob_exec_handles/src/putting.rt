@@ -30,7 +30,7 @@ fn is_same(a: Handle, b: Handle) -> bool
     a.object.0 == b.object.0 && is_same_mode(a.mode, b.mode)
 }
 
-// Whether a name stands for this handle already.
+// Whether a name denotes this handle already.
 fn stands_so(base: &Content, put: &Named) -> bool
     ensures { result ≡ stands_so base.now.handles put.now }
 {

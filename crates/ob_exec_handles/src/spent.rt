@@ -18,7 +18,7 @@ pub enum ReadItem {
     Object(ObjectId),
     /// Which number is the next.
     Next,
-    /// What this client's name for a handle stands for.
+    /// What this client's name for a handle denotes.
     Handle(Label, Label),
     /// Whether there are as many handles as there may be.
     HandlesFull,
@@ -41,7 +41,7 @@ pub fn read_item(reads: &mut Items<ReadItem>, item: ReadItem) -> Result<(), Memo
     Ok(())
 }
 
-// What a client's name for a handle stands for.
+// What a client's name for a handle denotes.
 fn handle_item(alloc: Global, who: &Label, name: &Label) -> Result<ReadItem, Memory>
     ensures { IfOk result (λ item. item_of item ≡ handle_item (handle_name who.now name.now)) }
 {
@@ -49,7 +49,7 @@ fn handle_item(alloc: Global, who: &Label, name: &Label) -> Result<ReadItem, Mem
     Ok(ReadItem::Handle(client, called))
 }
 
-// What a client's name for a handle stands for is read.
+// What a client's name for a handle denotes is read.
 fn read_name(
     reads: &mut Items<ReadItem>,
     alloc: Global,
@@ -62,7 +62,7 @@ fn read_name(
     read_item(reads, item)
 }
 
-/// A client's handle of a name is looked up for its object: what the name stands for is read, and the object. The answer is whether
+/// A client's handle of a name is looked up for its object: what the name denotes is read, and the object. The answer is whether
 /// there is such a handle.
 pub fn read_handle(
     reads: &mut Items<ReadItem>,
@@ -98,7 +98,7 @@ fn counts_handles(why: Option<Refusal>) -> bool
     matches!(why, None | Some(Refusal::HandlesFull))
 }
 
-// What a client's name for a handle stands for is read, if it is looked up.
+// What a client's name for a handle denotes is read, if it is looked up.
 fn read_looked_up(
     reads: &mut Items<ReadItem>,
     alloc: Global,
@@ -126,7 +126,7 @@ fn read_counted(reads: &mut Items<ReadItem>, is_counted: bool) -> Result<(), Mem
     }
 }
 
-/// What is read of the name for a handle that is to be made, by why the request is refused, if it is: what the name stands for, and
+/// What is read of the name for a handle that is to be made, by why the request is refused, if it is: what the name denotes, and
 /// whether there may be one more handle.
 pub fn read_new_name(
     reads: &mut Items<ReadItem>,

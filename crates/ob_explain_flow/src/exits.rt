@@ -1,4 +1,4 @@
-//! Which place it is of which a premise speaks that stands for many: where a body ends, where branches join, and at a change of state.
+//! Which place it is of which a premise speaks that is asked of many: where a body ends, where branches join, and at a change of state.
 
 use crate::case::Case;
 use crate::forgetting::{forgetting, put_remembering, say_forgotten};
@@ -224,7 +224,7 @@ fn say_operator(case: &Case<'_>, words: &mut Words) {
     }
 }
 
-/// Where branches join at `&&` or `||`, puts that an `if` can stand for it; the sentence goes on.
+/// Where branches join at `&&` or `||`, puts that an `if` can take its place; the sentence goes on.
 pub fn help_with_operator(case: &Case<'_>, words: &mut Words) {
     if case.is_at_operator() {
         let shown = case.shown();

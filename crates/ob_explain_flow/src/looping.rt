@@ -166,7 +166,7 @@ fn help_with_state_of_this(case: &Case<'_>, head: Perm, words: &mut Words) {
     }
     let Some(state) = first_of(case.frame.own(), case.frame.possible_under(head)) else {
         return words.put(
-            "change the state before the loop or behind it: a loop may run no turn, or many.",
+            "change the state before the loop or after it: a loop may run no turn, or many.",
         );
     };
     words.put("change back before the block ends, as by ");
@@ -178,7 +178,7 @@ fn help_with_state_of_this(case: &Case<'_>, head: Perm, words: &mut Words) {
 fn help_with_state(case: &Case<'_>, difference: Difference, head: Known, words: &mut Words) {
     let name = name_of(case, difference.place);
     let Some(contract) = contract_of(case, head.kind) else {
-        return words.put("do it behind the loop.");
+        return words.put("do it after the loop.");
     };
     say(words, &["bring `", name, "` back into `"]);
     put_states(words, contract, head.permission.states);
@@ -213,7 +213,7 @@ fn help_to_keep(case: &Case<'_>, place: Place, words: &mut Words) {
         &[
             "hand `",
             name,
-            "` on behind the loop, or end the turn that does by `return` or `revert`.",
+            "` on after the loop, or end the turn that does by `return` or `revert`.",
         ],
     );
 }
@@ -225,7 +225,7 @@ fn help_to_share(case: &Case<'_>, place: Place, words: &mut Words) {
         &[
             "share `",
             name_of(case, place),
-            "` before the loop or behind it, or end the turn that does by `return` or `revert`.",
+            "` before the loop or after it, or end the turn that does by `return` or `revert`.",
         ],
     );
 }
@@ -234,7 +234,7 @@ fn help_to_share(case: &Case<'_>, place: Place, words: &mut Words) {
 fn help_to_give(place: Place, is_set: bool, words: &mut Words) {
     words.put(match place {
         Place::Field(_) if !is_set => {
-            "give the field its value before the loop or behind it: a loop may run no turn, or many."
+            "give the field its value before the loop or after it: a loop may run no turn, or many."
         }
         Place::Field(_) => "give on what the field holds, or `disown` it, before the block ends.",
         _ => {

@@ -18,7 +18,7 @@ const MOST_OPEN_TOKENS: usize = 600;
 pub struct Expected {
     /// The spellings of the tokens.
     pub words: Vec<&'static str>,
-    /// The parts of the grammar that stand for tokens which were taken out of them, in words.
+    /// The parts of the grammar that take the place of tokens which were taken out of them, in words.
     parts: Vec<&'static str>,
 }
 
@@ -67,7 +67,7 @@ impl Expected {
         self.words.retain(|word| !has_word(words, word));
     }
 
-    // Has a part stand for its tokens, if it could stand there.
+    // Has a part take the place of its tokens, if it could stand there.
     fn take_part(&mut self, part: &Part) -> Result<(), Memory> {
         if self.has_all(part.marks) {
             self.parts.push(part.said)?;
@@ -76,7 +76,7 @@ impl Expected {
         Ok(())
     }
 
-    // Has the parts that could stand there stand for their tokens.
+    // Has the parts that could stand there take the place of their tokens.
     fn take_parts(&mut self) -> Result<(), Memory> {
         self.take_out(ARGUMENT);
         for part in &PARTS {

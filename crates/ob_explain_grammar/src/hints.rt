@@ -32,7 +32,7 @@ struct Foreign {
     help: &'static str,
 }
 
-/// Of words of other languages, which stand for `{}`.
+/// Of words of other languages, which take the place of `{}`.
 const FOREIGN: [Foreign; 25] = [
     Foreign {
         of: "for do loop foreach break continue",

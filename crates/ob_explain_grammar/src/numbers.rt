@@ -40,7 +40,7 @@ fn value_of(before: u64, digits: &[u8], base: u64) -> Option<u64> {
     Some(value)
 }
 
-// The base that a letter behind a zero stands for; 10 where it stands for none.
+// The base that a letter behind a zero represents; 10 where it represents none.
 fn base_of(letter: u8) -> u64 {
     match letter {
         b'x' | b'X' => 16,

@@ -71,7 +71,7 @@ fn fits_token(tokens: &str, token: &str, own: &str) -> bool {
         || (token == own && has_word(tokens, "#own"))
 }
 
-// What a name between two `#` stands for; another text stands for itself.
+// What a name between two `#` denotes; another text denotes itself.
 fn text_for<'a>(spot: &Spot<'a>, name: &'a str) -> &'a str {
     match name {
         "third" => spot.third,

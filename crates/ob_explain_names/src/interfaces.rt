@@ -79,7 +79,7 @@ fn same_named(one: &NamedNode, other: &NamedNode) -> bool {
     one.name.as_bytes() == other.name.as_bytes()
 }
 
-/// Whether two types are written with the same words; the contract's own type stands for its interface's.
+/// Whether two types are written with the same words; the contract's own type takes the place of its interface's.
 pub fn same_type(one: &TypeNode, other: &TypeNode, is_this: bool) -> bool {
     match (one, other) {
         (TypeNode::Int(_), TypeNode::Int(_)) => true,

@@ -1,4 +1,4 @@
-//! Faults of names and types in words: what a name stands for, which name is near, which types differ, what a declaration says, and
+//! Faults of names and types in words: what a name denotes, which name is near, which types differ, what a declaration says, and
 //! in which instance of a generic contract it is so.
 #![tactic(auto)]
 

@@ -1,4 +1,4 @@
-//! Names that stand for nothing, or for something else than is needed.
+//! Names that denote nothing, or something else than is needed.
 
 use crate::hints::FOREIGN;
 use crate::kinds::name_of_contract;
@@ -10,7 +10,7 @@ use ob_resolve_scope::{Names, kind_of_variable};
 use ob_resolve_spec::InferredKind;
 use ob_tree::Member;
 
-/// What a name has to stand for.
+/// What a name has to denote.
 #[derive(Clone, Copy)]
 enum Need {
     Contract,
@@ -32,7 +32,7 @@ fn is_name(word: &str) -> bool {
     }
 }
 
-// What the name after a dot has to stand for.
+// What the name after a dot has to denote.
 fn need_after_dot(site: &Site<'_>) -> Need {
     let receiver = site.near.back(2);
     match kind_of_variable(&site.around, &site.scope, receiver.as_bytes()) {
@@ -51,7 +51,7 @@ fn is_type(site: &Site<'_>) -> bool {
     }
 }
 
-// What the name at a place has to stand for, by the tokens after it.
+// What the name at a place has to denote, by the tokens after it.
 fn need_before(site: &Site<'_>) -> Need {
     if is_type(site) {
         Need::Contract
@@ -62,7 +62,7 @@ fn need_before(site: &Site<'_>) -> Need {
     }
 }
 
-// What the name at a place has to stand for, by the tokens beside it.
+// What the name at a place has to denote, by the tokens beside it.
 fn need_at(site: &Site<'_>) -> Need {
     match site.near.back(1) {
         "new" => Need::Object,
@@ -212,7 +212,7 @@ pub fn explain_unknown(told: &mut Explanation, site: &Site<'_>) {
     }
 }
 
-/// What a name stands for.
+/// What a name denotes.
 #[derive(Clone, Copy)]
 enum Thing {
     Variable,
@@ -239,7 +239,7 @@ fn thing_in_words(thing: Thing) -> &'static str {
     }
 }
 
-// The transaction that a name stands for in the contract of this number.
+// The transaction that a name denotes in the contract of this number.
 fn transaction_in(site: &Site<'_>, contract: usize, name: &str) -> Thing {
     match site.around.declared().heading(contract, name.as_bytes()) {
         Some(heading) => {
@@ -253,7 +253,7 @@ fn transaction_in(site: &Site<'_>, contract: usize, name: &str) -> Thing {
     }
 }
 
-// What a name stands for in the contract of this number.
+// What a name denotes in the contract of this number.
 fn thing_in(site: &Site<'_>, contract: usize, name: &str) -> Thing {
     if site
         .around
@@ -278,7 +278,7 @@ fn thing_at(site: &Site<'_>, contract: usize) -> Thing {
     }
 }
 
-// What a visible name stands for.
+// What a visible name denotes.
 fn thing_of<'a>(site: &Site<'a>, name: &'a str) -> Thing {
     if site.scope.variable(name.as_bytes()).is_some() {
         return Thing::Variable;
@@ -289,7 +289,7 @@ fn thing_of<'a>(site: &Site<'a>, name: &'a str) -> Thing {
     }
 }
 
-// What a name stands for where this is needed.
+// What a name denotes where this is needed.
 fn thing_where<'a>(site: &Site<'a>, name: &'a str, need: Need) -> Thing {
     match need {
         Need::TransactionOf(contract) => thing_in(site, contract, name),
@@ -306,7 +306,7 @@ fn help_with_private(contract: usize, own: usize) -> &'static str {
     }
 }
 
-// How to mend a name that stands for another thing in a contract, where the same is said of all names.
+// How to mend a name that denotes another thing in a contract, where the same is said of all names.
 fn help_with_thing(thing: Thing, need: Need, own: usize) -> &'static str {
     match (thing, need) {
         (Thing::PrivateTransaction, Need::TransactionOf(contract)) => {
@@ -323,7 +323,7 @@ fn help_with_thing(thing: Thing, need: Need, own: usize) -> &'static str {
     }
 }
 
-// How to mend a name that stands for another thing.
+// How to mend a name that denotes another thing.
 fn put_help(words: &mut Words, site: &Site<'_>, name: &str, thing: Thing, need: Need) {
     let help = help_with_thing(thing, need, site.around.number());
     if help.is_empty() {
@@ -338,7 +338,7 @@ fn put_other(words: &mut Words, name: &str, thing: &str, wanted: &str) {
     words.put_with("`{}` is {}, and {} is needed here", &[name, thing, wanted]);
 }
 
-// A name that stands for another thing.
+// A name that denotes another thing.
 fn explain_other<'a>(told: &mut Explanation, site: &Site<'a>, name: &'a str) {
     let need = need_at(site);
     let thing = thing_where(site, name, need);
@@ -386,8 +386,7 @@ fn explain_value(told: &mut Explanation, name: &str) {
         "`{}` is a value, which has no permission after `>>`",
         &[name],
     );
-    told.help
-        .put("leave `>>` and the permission behind it out.");
+    told.help.put("leave `>>` and the permission after it out.");
 }
 
 // Another contract, or an interface, where the contract around is needed.
@@ -426,7 +425,7 @@ fn is_in_head(site: &Site<'_>, name: &str) -> bool {
     site.member.is_some() && site.statement.is_none() && is_type && name != site.own_name()
 }
 
-// What a contract's name stands for where the contract around is needed; empty of other names.
+// What a contract's name denotes where the contract around is needed; empty of other names.
 fn foreign_thing<'a>(site: &Site<'a>, name: &'a str) -> &'static str {
     match thing_of(site, name) {
         Thing::Contract => "another contract",

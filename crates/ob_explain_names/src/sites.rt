@@ -352,7 +352,7 @@ impl<'a> Site<'a> {
         Within::new(self.written, name)
     }
 
-    /// The contract or interface that a name stands for here, without an argument: the type parameter stands for that of the argument.
+    /// The contract or interface that a name denotes here, without an argument: the type parameter denotes that of the argument.
     pub fn base(&self, name: &'a str) -> &'a str {
         match &self.within {
             Some(within) => within.base(name),

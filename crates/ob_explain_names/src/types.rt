@@ -81,7 +81,7 @@ fn explain_permission(told: &mut Explanation, site: &Site<'_>, generic: &str, bo
     }
 }
 
-// Whether the name at the place stands for an asset.
+// Whether the name at the place denotes an asset.
 fn is_asset(site: &Site<'_>) -> bool {
     match node_named(site, site.base(site.near.word())) {
         Some(node) => node.asset,
@@ -139,7 +139,7 @@ fn put_generic(told: &mut Explanation, name: &str, param: &ParamNode) {
     );
 }
 
-// The name of the generic contract around, where it doesn't stand for the contract itself.
+// The name of the generic contract around, where it doesn't denote the contract itself.
 fn explain_own(told: &mut Explanation, name: &str, param: &ParamNode) {
     told.what.put_with(
         "`{}` is generic: without an argument its name stands here for the type of `this` and of the constructor alone",

@@ -5,16 +5,16 @@ use ob_explain_page::{Explanation, Words, word_of};
 use ob_tree::{ContractNode, ParamNode, Tree};
 use std::alloc::Global;
 
-/// The most bytes of a printed name that are shown with what its parameters stand for.
+/// The most bytes of a printed name that are shown with what its parameters denote.
 const MOST_SHOWN: usize = 100;
 
-/// An instance, and what its parameters stand for.
+/// An instance, and what its parameters denote.
 #[derive(Clone, Copy)]
 pub struct Within<'a> {
     name: &'a str,
-    /// The argument's type: what stands for the type parameter.
+    /// The argument's type: what the type parameter denotes.
     of: &'a str,
-    /// Its permission: what stands for the permission parameter.
+    /// Its permission: what the permission parameter denotes.
     perm: &'a str,
     param: &'a ParamNode,
 }
@@ -84,7 +84,7 @@ impl<'a> Within<'a> {
         word_of(self.param.perm.name.as_bytes())
     }
 
-    /// The contract or interface that a name stands for in the instance: the type parameter stands for that of the argument.
+    /// The contract or interface that a name denotes in the instance: the type parameter denotes that of the argument.
     pub fn base(&self, name: &'a str) -> &'a str {
         if name == self.param() {
             base_of(self.of)
@@ -93,7 +93,7 @@ impl<'a> Within<'a> {
         }
     }
 
-    /// Puts what the parameters stand for, as ``where `T@s` is `Coin@Owned` ``.
+    /// Puts what the parameters denote, as ``where `T@s` is `Coin@Owned` ``.
     pub fn put_argument(&self, words: &mut Words) {
         words.put_with(
             "where `{}@{}` is `{}@{}`",
@@ -108,7 +108,7 @@ impl<'a> Within<'a> {
         words.put_with("in `{}..`", &[front]);
     }
 
-    /// Puts which instance it is, and what its parameters stand for; of one with a long name its front alone.
+    /// Puts which instance it is, and what its parameters denote; of one with a long name its front alone.
     pub fn put(&self, words: &mut Words) {
         if self.name.len() > MOST_SHOWN {
             return self.put_front(words);

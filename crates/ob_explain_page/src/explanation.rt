@@ -31,7 +31,7 @@ impl Words {
         }
     }
 
-    /// Puts a text in which these stand for its `{}`, in this order.
+    /// Puts a text in which these take the places of its `{}`, in this order.
     pub fn put_with(&mut self, text: &str, values: &[&str]) {
         let mut rest = text;
         for value in values {

@@ -155,7 +155,7 @@ fn say_flaw(what: &mut Words, bytes: &[u8], gate: usize) {
         Some((count, rest)) => {
             what.put("isn't whole: it says that it has ");
             put_count(what, count as u64, " byte", " bytes");
-            what.put(" and a gate behind them, and ");
+            what.put(" and a gate after them, and ");
             put_count(what, rest.len() as u64, " byte follows.", " bytes follow.");
         }
         None => what.put("isn't whole: the store ends in the 4 bytes that tell how long it is."),

@@ -4,7 +4,7 @@ ghost use Rattle.ob_perm.specs.Masks.{permission_of};
 ghost use Rattle.ob_silica.specs.TermsView.{terms_of};
 ghost use Rattle.ob_silica_places.specs.Places.{location_of};
 ghost use Rattle.ob_flow_spec.specs.Joining.{joined_branches};
-ghost use Rattle.ob_flow_spec.specs.Looping.{head_context, turns_back_if};
+ghost use Rattle.ob_flow_spec.specs.Looping.{head_context, frame_is_as_at_head_if};
 ghost use Rattle.ob_flow_spec.specs.Premises.{checked};
 ghost use Rattle.ob_flow_spec.specs.Testing.{tested_with, first_branch_ended, this_left};
 ghost use Rattle.ob_flow_context.specs.View.{context_of, tested_of};
@@ -15,7 +15,7 @@ use crate::testing::end_test;
 use crate::trace::Trace;
 use ob_base::{Duplicate, Items, Memory, Mode, Perm, Span};
 use ob_flow_context::{BodyFrame, Context, FlowError};
-use ob_flow_premises::{head_context, turns_back};
+use ob_flow_premises::{frame_is_as_at_head, head_context};
 use ob_perm::unowned;
 use ob_silica::{Operand, Place, Term};
 use std::alloc::Global;
@@ -145,12 +145,12 @@ pub(crate) fn end_turn(
     trace: &mut Trace,
 ) -> Result<Flow, FlowError>
     ensures { DerivesTo result (context_of context.new)
-        (checked (turns_back_if frame.now (context_of head) (reached flow (context_of turned)) end)
+        (checked (frame_is_as_at_head_if frame.now (context_of head) (reached flow (context_of turned)) end)
         (Some (context_of context.old))) }
 {
     match flow {
         Flow::Ended => Ok(Flow::On),
-        Flow::On => match turns_back(frame, &head, &turned, end) {
+        Flow::On => match frame_is_as_at_head(frame, &head, &turned, end) {
             Ok(()) => Ok(Flow::On),
             Err(error) => {
                 *context = head;

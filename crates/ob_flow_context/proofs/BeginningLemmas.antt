@@ -46,7 +46,7 @@ params_at n (p ∷ ps) (suc k) = params_at (n + 1) ps k
     ∙ ap (params_known (n + 1) ps) (omega arith)
     ∙ ap (λ b. if b then Some (known_as p.of) else params_known (n + 1) ps (n + suc k)) (sym (ne_eqb (n + suc k) n (λ e. omega (arith, e))))
 
--- the slots that stand for `this` and the parameters
+-- the slots that represent `this` and the parameters
 pub slots_begin : (b : BodyFrame) (slots : List (Option KnownOfPlace))
     → all_known slots ≡ Some (this_known b) ∷ params_in_order b.signature.params
     → known_at slots ≡ (λ k. beginning b (slot k))

@@ -1,4 +1,4 @@
--- What the parameters of the code stand for.
+-- What the parameters of the code represent.
 use Rattle.std.specs.Prelude.{List, map}
 use Rattle.ob_silica_places.specs.Parameters.{Parameter}
 use Rattle.ob_flow_context.specs.declared.passing.Parameter.{Parameter as ParameterOfCall}

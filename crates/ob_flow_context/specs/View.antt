@@ -1,4 +1,4 @@
--- What the context of the code stands for.
+-- What the context of the code represents.
 use Rattle.std.specs.Prelude.{ℕ, List, map, reverse, Option, option_map, slice_get}
 use Rattle.std.specs.Option.{option_flatten}
 use Rattle.ob_perm.specs.Masks.{permission_of}
@@ -26,7 +26,7 @@ abbrev pub known_in : (ℕ → Option Known) → (ℕ → Option Known) → Loca
 known_in slots fields (slot k) = slots k
 known_in slots fields (field f) = fields f
 
--- the context that one of the code stands for
+-- the context that one of the code represents
 unfoldable pub context_of : ContextOfBody → Context
 context_of c = λ p. known_in (known_at c.slots) (known_at c.fields) p
 

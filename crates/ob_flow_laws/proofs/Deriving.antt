@@ -19,7 +19,7 @@ use Rattle.ob_flow_spec.specs.Calling.{makes_object, after_new, calls_object, af
 use Rattle.ob_flow_spec.specs.Changing.{changes_state, after_change}
 use Rattle.ob_flow_spec.specs.Returning.{returns_result}
 use Rattle.ob_flow_spec.specs.Testing.{tests_state, in_tested_state, in_other_state, tested_with, first_branch_ended, this_left}
-use Rattle.ob_flow_spec.specs.Looping.{head_context, turns_back_if}
+use Rattle.ob_flow_spec.specs.Looping.{head_context, frame_is_as_at_head_if}
 use Rattle.ob_flow_spec.specs.Deriving.{Derived, constructor, if_reached, derive, derive_all, derive_in, body_frame, Derives}
 use Rattle.ob_flow_laws.specs.Premises.{Hold}
 use Rattle.ob_flow_laws.specs.Deriving.{PassesSigned, PassesTest, PassesIf, PassesTurnIf, PassesLoop, Passes, RestDerives, PassesAll}
@@ -93,13 +93,13 @@ passes_if b ts a branch other join at g left e =
 
 passes_turn : (b : BodyFrame) (ts : TestedPlaces) (a : Operand) (body : SilicaTerms) (end : Span) (head : Context) (after left : Option Context)
     → if_reached after (λ h. checked (uses_place b h (read_of a)) h >>= (λ h. derive_all b ts body h
-    >>= (λ turned. checked (turns_back_if b head turned end) (Some h)))) ≡ Ok left
+    >>= (λ turned. checked (frame_is_as_at_head_if b head turned end) (Some h)))) ≡ Ok left
     → PassesTurnIf b ts a body head after left
 passes_turn b ts a body end head None left e = sym (ok_same None left e)
 passes_turn b ts a body end head (Some h) left e =
     let u = checked_then (uses_place b h (read_of a)) h _ left e in
     let c = bind_ok (derive_all b ts body h) _ left u.1 in
-    let d = checked_leaves (turns_back_if b head c.0 end) (Some h) left c.2 in
+    let d = checked_leaves (frame_is_as_at_head_if b head c.0 end) (Some h) left c.2 in
     record {
       can = can_use b h (read_of a) u.0;
       turned = c.0;

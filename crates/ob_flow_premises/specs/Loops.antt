@@ -10,7 +10,7 @@ use Rattle.ob_silica_kinds.specs.Kinds.{Kinds}
 use Rattle.ob_flow_spec.specs.Premises.{Premise}
 use Rattle.ob_flow_spec.specs.Contexts.{BodyFrame, Context}
 use Rattle.ob_flow_spec.specs.Joining.{same_kind}
-use Rattle.ob_flow_spec.specs.Looping.{place_turns}
+use Rattle.ob_flow_spec.specs.Looping.{place_is_as_at_head}
 use Rattle.ob_flow_context.specs.declared.context.Known.{Known as KnownOfPlace}
 
 -- what is known of the slots or of the fields below a number
@@ -36,9 +36,9 @@ numbers_kept there g zero = g zero
 numbers_kept there g (suc k) = kept_by (there (suc k)) (g (suc k))
 
 -- a slot is at the end of a turn as at the head
-abbrev pub slot_turns : BodyFrame → Context → Context → Span → ℕ → List Premise
-slot_turns b head g end k = place_turns b head g end (slot k)
+abbrev pub slot_is_as_at_head : BodyFrame → Context → Context → Span → ℕ → List Premise
+slot_is_as_at_head b head g end k = place_is_as_at_head b head g end (slot k)
 
 -- so is a field
-abbrev pub field_turns : BodyFrame → Context → Context → Span → ℕ → List Premise
-field_turns b head g end f = place_turns b head g end (field f)
+abbrev pub field_is_as_at_head : BodyFrame → Context → Context → Span → ℕ → List Premise
+field_is_as_at_head b head g end f = place_is_as_at_head b head g end (field f)

@@ -16,7 +16,7 @@ pub use changing::{
     all_stay_under_test, fill_all, fills_once, in_state, may_change, put_got,
 };
 pub use joining::{joined_context, joins_fields, joins_slots, same_mode};
-pub use looping::{head_context, is_as_at_head, turns_back};
+pub use looping::{frame_is_as_at_head, head_context, is_as_at_head};
 pub use modes::{is_owner, is_unowned};
 pub use returning::{
     all_let_go, end_tests, leaves_fields, leaves_params, leaves_this, sets_fields, still_own,

@@ -6,11 +6,11 @@ ghost use Rattle.ob_silica_formed.specs.Holdings.{at_head};
 ghost use Rattle.ob_silica_kinds.specs.Kinds.{kinds_of, kinds_held};
 ghost use Rattle.ob_flow_spec.specs.Premises.{each};
 ghost use Rattle.ob_flow_spec.specs.Contexts.{static_of, field_count};
-ghost use Rattle.ob_flow_spec.specs.Looping.{holding, head_context, is_as_at_head, place_turns, turns_back};
+ghost use Rattle.ob_flow_spec.specs.Looping.{holding, head_context, is_as_at_head, place_is_as_at_head, frame_is_as_at_head};
 ghost use Rattle.ob_flow_context.specs.View.{known_of, known_at, context_of};
 ghost use Rattle.ob_flow_context.specs.Checking.{MeetsPremises};
 ghost use Rattle.ob_flow_premises.specs.Loops.{numbers_below, all_kinds, is_kept_by, kept_by, numbers_kept};
-ghost use Rattle.ob_flow_premises.specs.Loops.{slot_turns, field_turns};
+ghost use Rattle.ob_flow_premises.specs.Loops.{slot_is_as_at_head, field_is_as_at_head};
 
 use crate::joining::same_kind;
 use crate::modes::{is_owned_asset, known_at, room_for};
@@ -181,14 +181,14 @@ pub fn is_as_at_head(frame: &BodyFrame<'_>, head: Option<Known>, known: Option<K
 }
 
 // A place is at the end of a turn as at the head.
-fn place_turns(
+fn place_is_as_at_head(
     frame: &BodyFrame<'_>,
     head: &Context,
     context: &Context,
     end: Span,
     place: Place,
 ) -> Result<(), FlowError>
-    ensures { MeetsPremises result (place_turns frame.now (context_of head.now) (context_of context.now) end
+    ensures { MeetsPremises result (place_is_as_at_head frame.now (context_of head.now) (context_of context.now) end
         (location_of place)) }
 {
     let same = is_as_at_head(frame, head.get(place), context.get(place));
@@ -204,10 +204,10 @@ fn slots_turn(
     end: Span,
 ) -> Result<(), FlowError>
     ensures { MeetsPremises result (each frame.now.slots
-        (slot_turns frame.now (context_of head.now) (context_of context.now) end)) }
+        (slot_is_as_at_head frame.now (context_of head.now) (context_of context.now) end)) }
 {
     for slot in 0..frame.slots() {
-        place_turns(frame, head, context, end, Place::Slot(slot))?;
+        place_is_as_at_head(frame, head, context, end, Place::Slot(slot))?;
     }
     Ok(())
 }
@@ -221,25 +221,25 @@ fn fields_turn(
     end: Span,
 ) -> Result<(), FlowError>
     ensures { MeetsPremises result (each (field_count frame.now)
-        (field_turns frame.now (context_of head.now) (context_of context.now) end)) }
+        (field_is_as_at_head frame.now (context_of head.now) (context_of context.now) end)) }
 {
     for number in 0..frame.field_count() {
-        place_turns(frame, head, context, end, Place::Field(FieldId(number)))?;
+        place_is_as_at_head(frame, head, context, end, Place::Field(FieldId(number)))?;
     }
     Ok(())
 }
 
 /// `this`, each slot and each field is at the end of a turn as at the head.
 #[tactic(auto, using(ob_flow_context::proofs::PremiseLemmas::premises))]
-pub fn turns_back(
+pub fn frame_is_as_at_head(
     frame: &BodyFrame<'_>,
     head: &Context,
     context: &Context,
     end: Span,
 ) -> Result<(), FlowError>
-    ensures { MeetsPremises result (turns_back frame.now (context_of head.now) (context_of context.now) end) }
+    ensures { MeetsPremises result (frame_is_as_at_head frame.now (context_of head.now) (context_of context.now) end) }
 {
-    place_turns(frame, head, context, end, Place::This)?;
+    place_is_as_at_head(frame, head, context, end, Place::This)?;
     slots_turn(frame, head, context, end)?;
     fields_turn(frame, head, context, end)
 }

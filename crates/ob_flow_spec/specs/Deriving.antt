@@ -19,7 +19,7 @@ use Rattle.ob_flow_spec.specs.Calling.{makes_object, after_new, calls_object, af
 use Rattle.ob_flow_spec.specs.Changing.{changes_state, after_change}
 use Rattle.ob_flow_spec.specs.Returning.{returns_result}
 use Rattle.ob_flow_spec.specs.Joining.{joined_branches}
-use Rattle.ob_flow_spec.specs.Looping.{head_context, turns_back_if}
+use Rattle.ob_flow_spec.specs.Looping.{head_context, frame_is_as_at_head_if}
 use Rattle.ob_flow_spec.specs.Testing.{tests_state, in_tested_state, in_other_state, tested_with, first_branch_ended, this_left}
 use Rattle.ob_perm.specs.Permissions.{unowned}
 
@@ -75,7 +75,7 @@ abbrev mutual
       derive_all b ts first (head_context b first body g)
       >>= (λ left. if_reached left (λ h. checked (uses_place b h (read_of a)) h
       >>= (λ h. derive_all b ts body h
-      >>= (λ turned. checked (turns_back_if b (head_context b first body g) turned end) (Some h)))))
+      >>= (λ turned. checked (frame_is_as_at_head_if b (head_context b first body g) turned end) (Some h)))))
   derive b ts (assert_form o perm) at g = checked (asserts_permission b g o perm) (Some g)
   derive b ts (disown_form o) at g = checked (disowns_place b ts g o) (Some (now g (located o) unowned))
   derive b ts (drop_form k) at g = checked (drops_slot b ts g at k) (Some (put g (slot k) None))

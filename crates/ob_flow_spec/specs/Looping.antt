@@ -44,17 +44,17 @@ is_as_at_head table (Some x) None = false
 is_as_at_head table (Some x) (Some y) = same_kind y.kind x.kind && matches y.permission x.permission
 
 -- a place is at the end of a turn as at the head
-abbrev pub place_turns : BodyFrame → Context → Context → Span → Location → List Premise
-place_turns b head g end p = one loop_changes end (is_as_at_head b.table (head p) (g p))
+abbrev pub place_is_as_at_head : BodyFrame → Context → Context → Span → Location → List Premise
+place_is_as_at_head b head g end p = one loop_changes end (is_as_at_head b.table (head p) (g p))
 
 -- `this`, each slot and each field is at the end of a turn as at the head
-abbrev pub turns_back : BodyFrame → Context → Context → Span → List Premise
-turns_back b head g end =
-    place_turns b head g end this
-    ++ each b.slots (λ k. place_turns b head g end (slot k))
-    ++ each (field_count b) (λ f. place_turns b head g end (field f))
+abbrev pub frame_is_as_at_head : BodyFrame → Context → Context → Span → List Premise
+frame_is_as_at_head b head g end =
+    place_is_as_at_head b head g end this
+    ++ each b.slots (λ k. place_is_as_at_head b head g end (slot k))
+    ++ each (field_count b) (λ f. place_is_as_at_head b head g end (field f))
 
 -- the same, where the end of the body is reached
-abbrev pub turns_back_if : BodyFrame → Context → Option Context → Span → List Premise
-turns_back_if b head None end = []
-turns_back_if b head (Some g) end = turns_back b head g end
+abbrev pub frame_is_as_at_head_if : BodyFrame → Context → Option Context → Span → List Premise
+frame_is_as_at_head_if b head None end = []
+frame_is_as_at_head_if b head (Some g) end = frame_is_as_at_head b head g end

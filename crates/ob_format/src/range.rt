@@ -6,7 +6,7 @@ ghost use Rattle.ob_format.specs.Answering.{Answers};
 use crate::halt::{Halt, refused};
 use ob_format_spec::Range;
 
-// What a byte stands for after which so many come.
+// What a byte represents after which so many come.
 fn unit(left: u32) -> u32
     requires { left < 4 }
     ensures value { result ≡ 256 ^ left }

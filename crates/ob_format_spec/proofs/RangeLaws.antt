@@ -17,7 +17,7 @@ both_in a b c p q = rw (le-leb a b p, le-leb b c q) refl
 both_out : (a b c : ℕ) → (nat_le a b && nat_le b c) ≡ true → (a ≤ b) × (b ≤ c)
 both_out a b c e = let p = and_parts (nat_le a b) (nat_le b c) e in (leb-true a b p.0, leb-true b c p.1)
 
--- a byte that stands for 1 each
+-- a byte that represents 1 each
 to_0 : (low high b v : ℕ) → v < 1 → low ≤ b * 1 + v → b * 1 + v ≤ high → (low / 1 ≤ b) × (b ≤ high / 1) × (cond (b == low / 1) (low % 1) 0 ≤ v) × (v ≤ cond (b == high / 1) (high % 1) (1 - 1))
 to_0 low high b v small p q = (omega (arith, p, small), omega (arith, q), grind (arith, nat_tests), grind (arith, nat_tests))
 
@@ -27,7 +27,7 @@ from_0 low high b v small p q r = (grind (arith, nat_tests), grind (arith, nat_t
 fine_0 : (low high b : ℕ) → low ≤ high → high < 256 → (low / 1 ≤ b) × (b ≤ high / 1) → (cond (b == low / 1) (low % 1) 0 ≤ cond (b == high / 1) (high % 1) (1 - 1)) × (cond (b == high / 1) (high % 1) (1 - 1) < 1) × (b < 256)
 fine_0 low high b p q r = (grind (arith, nat_tests), grind (arith, nat_tests), omega (arith, q, r))
 
--- a byte that stands for 256 each
+-- a byte that represents 256 each
 to_1 : (low high b v : ℕ) → v < 256 → low ≤ b * 256 + v → b * 256 + v ≤ high → (low / 256 ≤ b) × (b ≤ high / 256) × (cond (b == low / 256) (low % 256) 0 ≤ v) × (v ≤ cond (b == high / 256) (high % 256) (256 - 1))
 to_1 low high b v small p q = (omega (arith, p, small), omega (arith, q), grind (arith, nat_tests), grind (arith, nat_tests))
 
@@ -37,7 +37,7 @@ from_1 low high b v small p q r = (grind (arith, nat_tests), grind (arith, nat_t
 fine_1 : (low high b : ℕ) → low ≤ high → high < 65536 → (low / 256 ≤ b) × (b ≤ high / 256) → (cond (b == low / 256) (low % 256) 0 ≤ cond (b == high / 256) (high % 256) (256 - 1)) × (cond (b == high / 256) (high % 256) (256 - 1) < 256) × (b < 256)
 fine_1 low high b p q r = (grind (arith, nat_tests), grind (arith, nat_tests), omega (arith, q, r))
 
--- a byte that stands for 65536 each
+-- a byte that represents 65536 each
 to_2 : (low high b v : ℕ) → v < 65536 → low ≤ b * 65536 + v → b * 65536 + v ≤ high → (low / 65536 ≤ b) × (b ≤ high / 65536) × (cond (b == low / 65536) (low % 65536) 0 ≤ v) × (v ≤ cond (b == high / 65536) (high % 65536) (65536 - 1))
 to_2 low high b v small p q = (omega (arith, p, small), omega (arith, q), grind (arith, nat_tests), grind (arith, nat_tests))
 
@@ -47,7 +47,7 @@ from_2 low high b v small p q r = (grind (arith, nat_tests), grind (arith, nat_t
 fine_2 : (low high b : ℕ) → low ≤ high → high < 16777216 → (low / 65536 ≤ b) × (b ≤ high / 65536) → (cond (b == low / 65536) (low % 65536) 0 ≤ cond (b == high / 65536) (high % 65536) (65536 - 1)) × (cond (b == high / 65536) (high % 65536) (65536 - 1) < 65536) × (b < 256)
 fine_2 low high b p q r = (grind (arith, nat_tests), grind (arith, nat_tests), omega (arith, q, r))
 
--- a byte that stands for 16777216 each
+-- a byte that represents 16777216 each
 to_3 : (low high b v : ℕ) → v < 16777216 → low ≤ b * 16777216 + v → b * 16777216 + v ≤ high → (low / 16777216 ≤ b) × (b ≤ high / 16777216) × (cond (b == low / 16777216) (low % 16777216) 0 ≤ v) × (v ≤ cond (b == high / 16777216) (high % 16777216) (16777216 - 1))
 to_3 low high b v small p q = (omega (arith, p, small), omega (arith, q), grind (arith, nat_tests), grind (arith, nat_tests))
 

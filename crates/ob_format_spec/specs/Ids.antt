@@ -1,4 +1,4 @@
--- The formats of the numbers that stand for things (this project's own): contracts and transactions in 32 bits,
+-- The formats of the numbers that represent things (this project's own): contracts and transactions in 32 bits,
 -- states and fields in one byte.
 use Rattle.ob_base.specs.declared.id.ContractId.{ContractId}
 use Rattle.ob_base.specs.declared.id.StateId.{StateId}

@@ -6,7 +6,7 @@ use Rattle.ob_resolve_spec.specs.Declarations.{Program}
 use Rattle.ob_resolve_spec.specs.Least.{least_from}
 use Rattle.ob_generic_spec.specs.Instances.{needed_by, instances_of}
 use Rattle.ob_generic_spec.specs.InstanceTrees.{plain_contracts, instance_contracts}
-use Rattle.ob_generic_spec.specs.TypeFaults.{type_faults_of, least_type_fault, HasNoTypeFault, LeastTypeFaultIs, IsFirstTypeFault}
+use Rattle.ob_generic_spec.specs.TypeFaults.{type_faults_of, least_type_fault, HasNoTypeFault, IsLeastTypeFaultOrNone, IsFirstTypeFault}
 use Rattle.ob_generic_spec.specs.declared.instance.Instance.{Instance}
 use Rattle.ob_generic_laws.proofs.Closed.{nothing_else}
 use Rattle.ob_generic_laws.proofs.Least.{least_is}
@@ -17,12 +17,12 @@ some_injective a b e = cc
 
 clean : (program : Program) (least : Option ProgramFault) → least ≡ least_type_fault program → least ≡ None
     → HasNoTypeFault program
-clean program least is none = subst (LeastTypeFaultIs program) (sym is ∙ none) (least_is program)
+clean program least is none = subst (IsLeastTypeFaultOrNone program) (sym is ∙ none) (least_is program)
 
 pub told : (program : Program) (least : Option ProgramFault) (fault : ProgramFault) → least ≡ least_type_fault program
     → least ≡ Some fault → IsFirstTypeFault program fault
 told program least fault is some = record {
-  least = subst (LeastTypeFaultIs program) (sym is ∙ some) (least_is program);
+  least = subst (IsLeastTypeFaultOrNone program) (sym is ∙ some) (least_is program);
   first = sym is ∙ some;
 }
 

@@ -52,7 +52,7 @@ unless true true e k = absurd (cc e)
 unless true false e k = absurd (cc k)
 unless false o e k = refl
 
--- what a name without an argument stands for, by whether it is the parameter's, and by the head of that name
+-- what a name without an argument denotes, by whether it is the parameter's, and by the head of that name
 right_bare : (p : Bool) (o : Option Head) → (not p && not (is_some o)) ≡ false
     → (not p && option_map_or (λ h. is_some h.param) o false) ≡ false
     → (not p && option_map_or (λ h. is_some h.param) o true) ≡ false

@@ -7,7 +7,7 @@ use Rattle.ob_base.specs.declared.fault.ProgramFault.{ProgramFault}
 use Rattle.ob_resolve_spec.specs.Declarations.{Program}
 use Rattle.ob_resolve_spec.specs.Faults.{Comes}
 use Rattle.ob_resolve_spec.specs.Least.{is_before, least_from}
-use Rattle.ob_generic_spec.specs.TypeFaults.{type_faults_of, least_type_fault, LeastTypeFaultIs}
+use Rattle.ob_generic_spec.specs.TypeFaults.{type_faults_of, least_type_fault, IsLeastTypeFaultOrNone}
 
 none_in : {X : Type 0} (x : X) → Contains [] x → ⊥
 none_in x q = omega (arith, q.1)
@@ -78,11 +78,11 @@ least_with g (x ∷ xs) = by (λ k. least_with k xs) (is_before x g) refl
         )
 
 least_of : (program : Program) (fs : List ProgramFault) → type_faults_of program ≡ fs
-    → LeastTypeFaultIs program (least_from None fs)
+    → IsLeastTypeFaultOrNone program (least_from None fs)
 least_of program [] e = e
 least_of program (g ∷ fs) e =
     let r = least_with g fs in
-    subst (LeastTypeFaultIs program) (sym r.1) (record {
+    subst (IsLeastTypeFaultOrNone program) (sym r.1) (record {
       has = subst (λ gs. Contains gs r.0) (sym e)
           (elim r.2.one [
             | inl is ↦ subst (λ y. Contains (g ∷ fs) y) (sym is) (head_in g fs)
@@ -92,5 +92,5 @@ least_of program (g ∷ fs) e =
           [ inl is ↦ subst (Comes r.0) is r.2.first | inr p ↦ r.2.all h p ];
     })
 
-pub least_is : (program : Program) → LeastTypeFaultIs program (least_type_fault program)
+pub least_is : (program : Program) → IsLeastTypeFaultOrNone program (least_type_fault program)
 least_is program = least_of program (type_faults_of program) refl

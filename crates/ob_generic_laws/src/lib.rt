@@ -9,7 +9,7 @@ ghost use Rattle.ob_resolve_spec.specs.Generics.{HasNoGenerics};
 ghost use Rattle.ob_resolve_spec.specs.Shape.{HasShape};
 ghost use Rattle.ob_generic_spec.specs.Substitution.{written_in};
 ghost use Rattle.ob_generic_spec.specs.Instances.{AreInstances, instances_of, needed_by, is_long, visits, type_of_use};
-ghost use Rattle.ob_generic_spec.specs.TypeFaults.{HasNoTypeFault, least_type_fault, LeastTypeFaultIs};
+ghost use Rattle.ob_generic_spec.specs.TypeFaults.{HasNoTypeFault, least_type_fault, IsLeastTypeFaultOrNone};
 ghost use Rattle.ob_generic_spec.specs.InstanceTrees.{instance_tree};
 ghost use Rattle.ob_generic_spec.specs.TextNames.{HaveTextNames};
 ghost use Rattle.ob_generic_spec.specs.declared.instance.Instance.{Instance};
@@ -62,5 +62,5 @@ pub fn plain_programs_stay()
 
 /// The least fault of types that is computed site by site is the least of all, and none is computed where there is none.
 pub fn least_type_fault_is_least()
-    ensures { (program : Program) → LeastTypeFaultIs program (least_type_fault program) }
+    ensures { (program : Program) → IsLeastTypeFaultOrNone program (least_type_fault program) }
 {}

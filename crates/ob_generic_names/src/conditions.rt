@@ -1,11 +1,11 @@
-//! What a name in the place of a type stands for.
+//! What a name in the place of a type denotes.
 ghost use Rattle.std.specs.Prelude.{◌≡◌};
 ghost use Rattle.ob_generic_spec.specs.TypeFaults.{is_nothing, is_generic, takes_nothing, is_own_name, is_own};
 
 use crate::around::{AroundType, OwnInstance, is_param, is_same};
 use ob_generic_spec::Role;
 
-/// Whether a name stands for nothing: it is neither the type parameter nor a contract's or interface's.
+/// Whether a name denotes nothing: it is neither the type parameter nor a contract's or interface's.
 pub fn is_nothing(name: &[u8], around: &AroundType<'_>) -> bool
     ensures { result ≡ is_nothing around.now name.now }
 {
@@ -50,7 +50,7 @@ fn is_own_name(name: &[u8], own: &OwnInstance<'_>) -> bool
     is_same(own.name().as_bytes(), name) && !is_same(own.param().name.name.as_bytes(), name)
 }
 
-/// Whether a name stands for the instance around: the contract's own name, as the type of `this` or as a constructor's name.
+/// Whether a name denotes the instance around: the contract's own name, as the type of `this` or as a constructor's name.
 pub fn is_own(name: &[u8], own: &Option<OwnInstance<'_>>, role: Role) -> bool
     ensures { result ≡ is_own own.now role name.now }
 {

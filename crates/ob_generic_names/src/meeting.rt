@@ -78,7 +78,7 @@ fn instance_with(
     })
 }
 
-/// The instance that a name with this argument stands for; `inner` says whether the argument has a fault.
+/// The instance that a name with this argument denotes; `inner` says whether the argument has a fault.
 pub fn instance_of_with(
     name: &[u8],
     alloc: Global,

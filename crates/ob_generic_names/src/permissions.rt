@@ -89,7 +89,7 @@ fn put_states_in(
     Ok(())
 }
 
-// One state alone may stand for any permission.
+// One state alone may take the place of any permission.
 fn one_state_in(state: &NamePart, alloc: Global, own: &OwnInstance<'_>) -> Result<PermNode, Memory>
     ensures { IfOk result (λ p. p ≡ states_in own.now (state.now ∷ [])) }
 {

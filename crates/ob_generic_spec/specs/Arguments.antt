@@ -52,7 +52,7 @@ abbrev pub lacks_state : List Head → Argument → Bool
 lacks_state heads argument =
     option_map_or (λ h. names_other_state h.states argument.perm) (head_named heads argument.of.base) false
 
--- whether a name without an argument has a fault in an argument: it stands for nothing, or for something generic
+-- whether a name without an argument has a fault in an argument: it denotes nothing, or something generic
 abbrev pub is_faulty_bare : Around → Name → Bool
 is_faulty_bare a name =
     not (is_param a.own name) && option_map_or (λ h. is_some h.param) (head_named a.heads name) true

@@ -19,7 +19,7 @@ abbrev pub own_name : Option Own → Name → Name
 own_name None name = name
 own_name (Some o) name = text_of o.instance.name
 
--- a name in which the argument stands for the type parameter
+-- a name in which the argument takes the place of the type parameter
 abbrev pub param_name : Option Own → Name → Name
 param_name None name = name
 param_name (Some o) name = if same o.param.name.name name then text_of o.instance.argument.of.name else name

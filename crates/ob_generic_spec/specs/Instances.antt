@@ -34,13 +34,13 @@ instance_with name argument number =
 abbrev pub number_named : List Head → Name → Option ℕ
 number_named heads name = number_of name (map (λ h. h.name) heads)
 
--- the instance that a type with an argument stands for: none, if it has a fault. The `Bool` is whether the argument has one.
+-- the instance that a type with an argument denotes: none, if it has a fault. The `Bool` is whether the argument has one.
 abbrev pub instance_of_with : Around → Name → Bool → Argument → Option Instance
 instance_of_with a name inner argument =
     if is_faulty_with a name inner argument then None
     else option_map (instance_with name argument) (number_named a.heads name)
 
--- the instance that a type stands for: none without an argument, or with a fault of its own or in its argument
+-- the instance that a type denotes: none without an argument, or with a fault of its own or in its argument
 abbrev pub instance_of : Around → Named → Option Instance
 instance_of a (bare_name name span) = None
 instance_of a (name_with name argument span) =

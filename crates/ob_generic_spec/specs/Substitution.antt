@@ -1,4 +1,4 @@
--- Types and permissions in an instance, where the argument stands for the parameters (Coblenz et al., TOPLAS 42(3), 2020,
+-- Types and permissions in an instance, where the argument takes the place of the parameters (Coblenz et al., TOPLAS 42(3), 2020,
 -- on generics; that tokens stand in the place of a token, and how names are printed, is this project's own).
 use Rattle.std.specs.Prelude.{ℕ, Bool, false, List, [], ◌∷◌, ◌++◌, Option, Some, None, map, flat_map, codes, if◌then◌else◌}
 use Rattle.std.specs.Option.{option_map_or}
@@ -84,7 +84,7 @@ printed_name name argument =
 
 -- Types: the argument's, in the place of the type parameter.
 
--- a name that stands for itself
+-- a name that denotes itself
 abbrev pub written_itself : Name → Written
 written_itself name = record { base = name; name = name }
 

@@ -22,9 +22,9 @@ use Rattle.ob_generic_spec.specs.declared.instance.Instance.{Instance}
 use Rattle.ob_generic_spec.specs.declared.role.Role.{Role}
 use Rattle.ob_generic_spec.specs.declared.role.Role.TheVariants.{OfOwn, InArgument}
 
--- What a name stands for.
+-- What a name denotes.
 
--- whether it stands for nothing: it is neither the type parameter nor a contract's or interface's
+-- whether it denotes nothing: it is neither the type parameter nor a contract's or interface's
 abbrev pub is_nothing : Around → Name → Bool
 is_nothing a name = not (is_param a.own name) && not (is_some (head_named a.heads name))
 
@@ -42,7 +42,7 @@ takes_nothing a name =
 abbrev pub is_own_name : Own → Name → Bool
 is_own_name o name = same o.name name && not (same o.param.name.name name)
 
--- whether it stands for the instance around: the contract's own name, as the type of `this` or as a constructor's name
+-- whether it denotes the instance around: the contract's own name, as the type of `this` or as a constructor's name
 abbrev pub is_own : Option Own → Role → Name → Bool
 is_own (Some o) OfOwn name = is_own_name o name
 is_own own role name = false
@@ -54,7 +54,7 @@ is_in_argument role = false
 
 -- The conditions.
 
--- `unknown_name`: a name in an argument, or before one, that stands for nothing; a bound of another name than the permission
+-- `unknown_name`: a name in an argument, or before one, that denotes nothing; a bound of another name than the permission
 -- parameter's
 abbrev pub is_unknown_type : TypeSite → Bool
 is_unknown_type (bounds_permission p name) = not (same p.perm.name name.name)
@@ -143,9 +143,9 @@ abbrev pub least_type_fault : Program → Option ProgramFault
 least_type_fault program = least_from None (type_faults_of program)
 
 -- it is the least fault, or there is none
-abbrev pub LeastTypeFaultIs : Program → Option ProgramFault → Type 0
-LeastTypeFaultIs program None = HasNoTypeFault program
-LeastTypeFaultIs program (Some f) = IsLeastTypeFault program f
+abbrev pub IsLeastTypeFaultOrNone : Program → Option ProgramFault → Type 0
+IsLeastTypeFaultOrNone program None = HasNoTypeFault program
+IsLeastTypeFaultOrNone program (Some f) = IsLeastTypeFault program f
 
 -- The fault that is told of a program: none has a lesser place, or at its place a lesser number. Of several with this place
 -- and number it is that of the first site.

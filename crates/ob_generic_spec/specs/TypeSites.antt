@@ -29,7 +29,7 @@ pub data TypeSite : Type 0 where
   names_type : Around → List Instance → Use → TypeSite
   -- the contract or interface of this name has this argument
   passes_argument : Around → Name → Ref → TypeSite
-  -- a name stands for a state in the permission of an argument whose contract or interface, if there is one, asks this
+  -- a name denotes a state in the permission of an argument whose contract or interface, if there is one, asks this
   names_argument_state : Option Head → NamePart → TypeSite
 
 -- the place of a type
@@ -65,7 +65,7 @@ abbrev pub argument_state_sites : Option Head → PermNode → List TypeSite
 argument_state_sites head (Mode mode span) = []
 argument_state_sites head (States states) = map (names_argument_state head) states
 
--- an argument's permission, where the argument around stands for the parameters
+-- an argument's permission, where the argument around takes the place of the parameters
 abbrev pub argument_perm_sites : Around → Argument → List TypeSite
 argument_perm_sites a argument = argument_state_sites (head_named a.heads argument.of.base) argument.perm
 

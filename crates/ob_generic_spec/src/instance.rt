@@ -2,7 +2,7 @@
 use ob_base::{Items, Text};
 use ob_tree::PermNode;
 
-/// The name of a type in which arguments stand for parameters (Coblenz et al., TOPLAS 42(3), 2020, on generics; how it is
+/// The name of a type in which arguments take the place of parameters (Coblenz et al., TOPLAS 42(3), 2020, on generics; how it is
 /// printed is this project's own).
 #[derive(Drop)]
 pub struct Written {
@@ -12,7 +12,7 @@ pub struct Written {
     pub name: Items<u8>,
 }
 
-/// A type argument in which arguments stand for parameters.
+/// A type argument in which arguments take the place of parameters.
 #[derive(Drop)]
 pub struct Argument {
     /// What stands before `@`.
@@ -28,6 +28,6 @@ pub struct Instance {
     pub name: Items<u8>,
     /// The number of the generic contract or interface: how many stand before it in the text.
     pub contract: usize,
-    /// What its parameter stands for.
+    /// What its parameter denotes.
     pub argument: Argument,
 }

@@ -17,7 +17,8 @@ use Rattle.ob_heap.specs.declared.value.Value.TheVariants.{Int, Bool as Truth, T
 use Rattle.ob_heap.specs.declared.object.Object.{Object}
 use Rattle.ob_heap.specs.Ascending.{IsBelowAll, IsAscending}
 use Rattle.ob_heap.specs.Overlays.{Changes, changed_at, laid_from, laid_over}
-use Rattle.ob_heap.specs.Differences.{same_truth, same_value, same_fields, same_state, same_object, is_other, other_objects, numbered_from, differing, with_objects}
+use Rattle.ob_heap_spec.specs.Operations.{same_truth}
+use Rattle.ob_heap.specs.Differences.{same_value, same_fields, same_state, same_object, is_other, other_objects, numbered_from, differing, with_objects}
 use Rattle.ob_heap.proofs.OverlaysLemmas.{laid_same, length-laid}
 
 -- Sameness.

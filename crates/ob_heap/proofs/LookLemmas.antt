@@ -86,7 +86,7 @@ pub look_change : (k : HandleName) (n : Label × Label) (c : Option Handle) (hs 
 look_change k n None hs = look_without k n hs
 look_change k n (Some h) hs = look_with k n h hs
 
--- after changes a name stands for what the last of them says of it, and else for what it did
+-- after changes a name denotes what the last of them says of it, or else what it denoted
 pub look_changes : (k : HandleName) (hs : List Held) (ds : List ((Label × Label) × Option Handle))
     → handle_at k (with_handles hs ds) ≡ unwrap_or (change_at k ds) (handle_at k hs)
 look_changes k hs [] = refl

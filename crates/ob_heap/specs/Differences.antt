@@ -5,15 +5,12 @@ use Rattle.std.specs.Ordering.{int_eq}
 use Rattle.ob_base.specs.declared.id.FieldId.{FieldId}
 use Rattle.ob_base.specs.declared.id.ObjectId.{ObjectId}
 use Rattle.ob_base.specs.declared.id.StateId.{StateId}
+use Rattle.ob_heap_spec.specs.Operations.{same_truth}
 use Rattle.ob_heap.specs.declared.value.Value.{Value}
 use Rattle.ob_heap.specs.declared.value.Value.TheVariants.{Int, Bool as Truth, Text, Object as Reference}
 use Rattle.ob_heap.specs.declared.object.Object.{Object}
 use Rattle.ob_heap.specs.Overlays.{Changes}
 use Rattle.ob_heap.specs.Plain.{object_of}
-
--- whether two truth values are the same
-abbrev pub same_truth : Bool → Bool → Bool
-same_truth x y = if x then y else not y
 
 -- whether two values are the same
 abbrev pub same_value : Value → Value → Bool

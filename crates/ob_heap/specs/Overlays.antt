@@ -8,7 +8,7 @@ use Rattle.ob_heap.specs.Edits.{with_edit}
 use Rattle.ob_heap.specs.Plain.{object_of}
 use Rattle.ob_heap_spec.specs.Objects.{Object as PlainObject}
 
--- the object that stands for a number, if one does
+-- the object that represents a number, if one does
 abbrev pub changed_at : ℕ → List (ℕ × Object) → Option Object
 changed_at n [] = None
 changed_at n (e ∷ es) = if nat_eq n e.0 then Some e.1 else changed_at n es

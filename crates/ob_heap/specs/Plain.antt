@@ -1,4 +1,4 @@
--- What values and objects stand for: the plain data of a store.
+-- What values and objects represent: the plain data of a store.
 use Rattle.std.specs.Prelude.{List}
 use Rattle.std.specs.Option.{option_map}
 use Rattle.ob_base.specs.declared.id.FieldId.{FieldId}

@@ -35,7 +35,7 @@ pub fn plain_fields_follow()
     ensures { (k : FieldId) (v : Value) (es : List (FieldId × Value)) → fields_of (with_value k v es) ≡ put (fields_of es) k.0 (value_of v) }
 {}
 
-/// After changes of handles a name stands for what the last of them says of it, and any other for what it did.
+/// After changes of handles a name denotes what the last of them says of it, and any other what it denoted.
 pub fn handles_are_changed()
     ensures { (n : HandleName) (hs : List ((Label × Label) × Handle)) (ds : List ((Label × Label) × Option Handle)) → handle_at n (with_handles hs ds) ≡ unwrap_or (change_at n ds) (handle_at n hs) }
 {}

@@ -43,7 +43,8 @@ object_at objects n = slice_get objects n
 abbrev pub name_order : HandleName → HandleName → Ordering
 name_order a b = ordering_then (slice_cmp nat_cmp a.who b.who) (slice_cmp nat_cmp a.name b.name)
 
--- a value is one of its kind: an `int`, a `bool`, a text of at most `longest_string` bytes, or a reference to one of the objects
+-- a value has the form of its type: an `int`, a `bool`, a text of at most `longest_string` bytes, or a reference to one of the
+-- objects, of whichever contract
 abbrev pub IsValueOf : List Object → ResolvedType → Value → Type 0
 IsValueOf objects Int (int_value z) = IsTrue (is_int z)
 IsValueOf objects BoolKind (bool_value b) = ⊤

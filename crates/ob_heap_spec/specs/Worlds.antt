@@ -6,7 +6,7 @@ use Rattle.ob_heap_spec.specs.Objects.{Object}
 use Rattle.ob_heap_spec.specs.Contents.{HandleName, object_at}
 
 -- What can be read of a store: the object of a number; which number is the next; what a client's name for a handle
--- stands for; whether there are as many handles as there may be. A body reads only the first two: the two of handles are
+-- denotes; whether there are as many handles as there may be. A body reads only the first two: the two of handles are
 -- read by an invocation, before its body runs and after it.
 pub data ReadItem : Type 0 where
   object_item : ℕ → ReadItem

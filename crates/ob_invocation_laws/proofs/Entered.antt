@@ -259,7 +259,7 @@ of_call table content who r e is =
 
 -- Uses of handles that are there.
 
--- each use is of the handle that its name stands for
+-- each use is of the handle that its name denotes
 abbrev pub AreFound : Content → List HandleUse → Type 0
 AreFound content [] = ⊤
 AreFound content (u ∷ uses) = (handle_at content u.name ≡ Some u.handle) × AreFound content uses

@@ -47,11 +47,11 @@ pub record AreHandles (objects : List Object) (handles : List NamedHandle) : Typ
   pub each : All (IsHandle objects) handles
   pub order : AllPairs (λ a b. name_order a.0 b.0 ≡ Less) handles
 
--- what a name stands for once a handle is put
+-- what a name denotes once a handle is put
 abbrev pub found_after_put : Content → NamedHandle → HandleName → Option Handle
 found_after_put content h name = if eq_by_cmp name_order name h.0 then Some h.1 else handle_at content name
 
--- what a name stands for once the handle of a name has gone
+-- what a name denotes once the handle of a name has gone
 abbrev pub found_without : Content → HandleName → HandleName → Option Handle
 found_without content gone name = if eq_by_cmp name_order gone name then None else handle_at content name
 

@@ -33,8 +33,8 @@ pub fn handles_stay_in_order()
         → AreHandles objects handles → AreHandles objects (without_handle handles name) }
 {}
 
-/// A name stands for the handle that was put under it last, and for none once its handle has gone; any other name
-/// stands for what it stood for.
+/// A name denotes the handle that was put under it last, and none once its handle has gone; any other name
+/// denotes what it denoted.
 pub fn handles_are_found_by_name()
     ensures put { (content : Content) (h : NamedHandle) (name : HandleName)
         → handle_at (record content { handles = put_handle content.handles h }) name ≡ found_after_put content h name }

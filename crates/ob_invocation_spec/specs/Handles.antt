@@ -14,7 +14,7 @@ use Rattle.ob_rest_spec.specs.Modes.{is_shared}
 abbrev pub handle_name : List ℕ → List ℕ → HandleName
 handle_name who name = record { who = who; name = name }
 
--- what is read where a handle is looked up for its object: what the name stands for, and the object
+-- what is read where a handle is looked up for its object: what the name denotes, and the object
 abbrev pub handle_reads : Content → HandleName → List ReadItem
 handle_reads content name =
     handle_item name ∷ option_to_list (option_map (λ h. object_item h.object) (handle_at content name))

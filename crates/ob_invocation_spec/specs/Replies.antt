@@ -19,21 +19,6 @@ pub data Refusal : Type 0 where
   into_taken : Refusal
   handles_full : Refusal
 
--- the number of a refusal; those of lines that are no requests come before
-abbrev pub refusal_number : Refusal → ℕ
-refusal_number no_handle = 5
-refusal_number no_contract = 6
-refusal_number not_main = 7
-refusal_number no_transaction = 8
-refusal_number arg_count = 9
-refusal_number arg_kind = 10
-refusal_number permission = 11
-refusal_number repeated = 12
-refusal_number into_missing = 13
-refusal_number into_needless = 14
-refusal_number into_taken = 15
-refusal_number handles_full = 16
-
 -- an object as a `see` shows it: its number, the names of its contract and of its state, the values of its available
 -- fields with their names, and its marks
 pub record ShownObject : Type 0 where

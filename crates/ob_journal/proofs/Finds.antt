@@ -5,7 +5,7 @@ use Rattle.std.specs.Int.RustNames.{FitsSigned}
 use Rattle.ob_disk_spec.specs.Disk.{DiskView, Reads}
 use Rattle.ob_disk_spec.specs.Durable.{May, Throughout, During}
 use Rattle.ob_disk_spec.proofs.Moments.{throughout_to, throughout_may}
-use Rattle.ob_journal_spec.specs.Areas.{Journaled, Records, StandsFor, IsDamaged}
+use Rattle.ob_journal_spec.specs.Areas.{Journaled, Records, AreaRepresents, IsDamaged}
 use Rattle.ob_journal_spec.specs.Disks.{Place, area_at, start_of, IsJournalAt, IsBlankDisk, IsNoStoreDisk, IsDamagedDisk}
 use Rattle.ob_journal_spec.proofs.DiskReading.{journal_at, damaged_at}
 use Rattle.ob_journal.specs.Places.{place_in}
@@ -39,8 +39,8 @@ module _ (size start : ℕ) (place : Place) (at : start ≡ start_of size place)
   area_is : bytes ≡ area_at size place c
   area_is = is ∙ ap (λ (n : ℕ). take size (drop n c)) at
 
-  pub current_stands : (j : Journaled) → StandsFor j bytes → IsJournalAt size place j c
-  current_stands j stands = journal_at size place current.serial current.marked.image j c current.marked.has current.older (subst (StandsFor j) area_is stands)
+  pub current_stands : (j : Journaled) → AreaRepresents j bytes → IsJournalAt size place j c
+  current_stands j stands = journal_at size place current.serial current.marked.image j c current.marked.has current.older (subst (AreaRepresents j) area_is stands)
 
   pub current_damaged : (n : ℕ) → IsDamaged n bytes → IsDamagedDisk size (start + n) c
   current_damaged n damaged =

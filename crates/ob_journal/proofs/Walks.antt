@@ -2,7 +2,7 @@
 use Rattle.std.proofs.Common.{◌≡◌, ◌⊎◌, inl, inr, ℕ, zero, suc, ℤ, ◌+◌, ◌-◌, ◌<◌, List, [], ◌∷◌, ◌++◌, length, get_or, take, drop, length-append, length-take, length-drop, take-append-drop, append_assoc, refl, sym, ◌∙◌, ap, subst, arith}
 use Rattle.std.proofs.lemmas.List.{take_at, drop_more, drop-drop, get_or-drop, append-nil}
 use Rattle.ob_journal_spec.specs.Spellings.{sized, header}
-use Rattle.ob_journal_spec.specs.Areas.{Journaled, Records, Front, StandsFor, IsOpen, HasHeader, HasRecord, IsDamaged, next_gate}
+use Rattle.ob_journal_spec.specs.Areas.{Journaled, Records, Front, AreaRepresents, IsOpen, HasHeader, HasRecord, IsDamaged, next_gate}
 use Rattle.ob_journal_spec.proofs.Reading.{headed, closes, damages, gate_is}
 use Rattle.ob_journal_spec.proofs.Bytes.{records-append}
 use Rattle.ob_journal_spec.proofs.Spelled.{length-sized, one_sized}
@@ -105,7 +105,7 @@ module _ (bytes image : List ℕ) (serial : ℤ) (has : HasHeader serial image b
     there : get_or bytes (start + gate) 0 ≡ get_or behind gate 0
     there = sym (get_or-drop start bytes gate 0) ∙ ap (λ (l : List ℕ). get_or l gate 0) (sym is)
 
-    pub stands_there : get_or behind gate 0 ≡ 0 → StandsFor (says serial image ends.payloads) bytes
+    pub stands_there : get_or behind gate 0 ≡ 0 → AreaRepresents (says serial image ends.payloads) bytes
     stands_there closed = closes (says serial image ends.payloads) bytes (start + gate) front within_area (there ∙ closed)
 
     pub gate_there : start + gate ≡ next_gate (says serial image ends.payloads)
@@ -120,7 +120,7 @@ module _ (bytes image : List ℕ) (serial : ℤ) (has : HasHeader serial image b
     pub read_there : (read : ReadArea) → read.serial ≡ serial → read.image.items ≡ image → read.gate ≡ start + gate → get_or behind gate 0 ≡ 0 → IsRead read bytes
     read_there read same_serial same_image same_gate closed =
         let first : first_gate read ≡ start = ap (λ (l : List ℕ). 17 + length l) same_image in
-        let P : ℤ → List ℕ → Type 0 = λ z l. StandsFor (says z l ends.payloads) bytes in
+        let P : ℤ → List ℕ → Type 0 = λ z l. AreaRepresents (says z l ends.payloads) bytes in
         record {
           payloads = ends.payloads;
           stands = subst (λ (z : ℤ). P z read.image.items) (sym same_serial) (subst (λ (l : List ℕ). P serial l) (sym same_image) (stands_there closed));

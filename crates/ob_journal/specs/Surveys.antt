@@ -1,6 +1,6 @@
 -- What is read of an area.
 use Rattle.std.specs.Prelude.{ℕ, ℤ, ◌≡◌, ◌<◌, ◌+◌, ◌-◌, ⊤, List, ◌∷◌, length, take, drop, get_or, Result, Ok, Err}
-use Rattle.ob_journal_spec.specs.Areas.{Journaled, Records, StandsFor, IsOpen, HasHeader, HasRecord, IsDamaged, next_gate}
+use Rattle.ob_journal_spec.specs.Areas.{Journaled, Records, AreaRepresents, IsOpen, HasHeader, HasRecord, IsDamaged, next_gate}
 use Rattle.ob_journal.specs.declared.error.AreaFault.{AreaFault}
 use Rattle.ob_journal.specs.declared.error.AreaFault.TheVariants.{NotStore, Damaged, Memory}
 use Rattle.ob_journal.specs.declared.records.RecordsEnd.{RecordsEnd}
@@ -44,7 +44,7 @@ first_gate read = 17 + length read.image.items
 -- the area represents what was read, and the gate behind the records is within it
 pub record IsRead (read : ReadArea) (area : List ℕ) : Type 0 where
   pub payloads : List (List ℕ)
-  pub stands : StandsFor (plain read payloads) area
+  pub stands : AreaRepresents (plain read payloads) area
   pub records : Records payloads (take (read.gate - first_gate read) (drop (first_gate read) area))
   pub gate : read.gate ≡ next_gate (plain read payloads)
   pub within : read.gate < length area

@@ -7,7 +7,7 @@ use Rattle.std.proofs.lemmas.Int.{ints}
 use Rattle.std.proofs.lemmas.List.{append-nil}
 use Rattle.ob_disk_spec.specs.Disk.{Torn, overwritten}
 use Rattle.ob_journal_spec.specs.Spellings.{sized, header}
-use Rattle.ob_journal_spec.specs.Areas.{Journaled, StandsFor, IsBlank, begun}
+use Rattle.ob_journal_spec.specs.Areas.{Journaled, AreaRepresents, IsBlank, begun}
 use Rattle.ob_journal_spec.specs.Disks.{moved}
 use Rattle.ob_journal_spec.specs.Building.{IsClosed, IsSpelled, IsHeaded}
 use Rattle.ob_journal_spec.specs.Lasting.{last_serial}
@@ -40,7 +40,7 @@ module _ (k : Journaled) (records : List ℕ) where
       (rest, is ∙ ap (overwritten 1 built) was.1 ∙ put_inside (0 ∷ []) was.0 built 1 refl ∙ ap (λ (l : List ℕ). 0 ∷ l) (append_assoc text (records ++ 0 ∷ []) rest ∙ ap (λ (l : List ℕ). text ++ l) (append_assoc records (0 ∷ []) rest)))
 
   module _ (is : IsSpelled k records) where
-    opened : (gate : ℕ) (rest c : List ℕ) → 0 < gate → c ≡ gate ∷ (text ++ (records ++ 0 ∷ rest)) → StandsFor k c
+    opened : (gate : ℕ) (rest c : List ℕ) → 0 < gate → c ≡ gate ∷ (text ++ (records ++ 0 ∷ rest)) → AreaRepresents k c
     unfolding text
     opened gate rest c is_open same = record {
       front = gate ∷ (text ++ records);
@@ -49,17 +49,17 @@ module _ (k : Journaled) (records : List ℕ) where
       open_front = record { gate = gate; records = records; is_open = is_open; is = refl; fits = is.fits; from_one = is.from_one; payloads = is.payloads };
     }
 
-    by_gate : (gate : ℕ) (rest c : List ℕ) → c ≡ gate ∷ (text ++ (records ++ 0 ∷ rest)) → IsClosed c ⊎ StandsFor k c
+    by_gate : (gate : ℕ) (rest c : List ℕ) → c ≡ gate ∷ (text ++ (records ++ 0 ∷ rest)) → IsClosed c ⊎ AreaRepresents k c
     unfolding text
     by_gate zero rest c same = inl (text ++ (records ++ 0 ∷ rest), same)
     by_gate (suc g) rest c same = inr (opened (suc g) rest c (omega arith) same)
 
-    pub headed_torn : (d c : List ℕ) → IsHeaded k records d → Torn 0 1 d c → IsClosed c ⊎ StandsFor k c
+    pub headed_torn : (d c : List ℕ) → IsHeaded k records d → Torn 0 1 d c → IsClosed c ⊎ AreaRepresents k c
     unfolding text
     headed_torn d c was torn =
         let now = torn_byte [] (text ++ (records ++ 0 ∷ was.0)) c 0 0 refl (subst (λ (l : List ℕ). Torn 0 1 l c) was.1 torn) in by_gate now.0 was.0 c now.1
 
-    pub headed_opens : (d c : List ℕ) → IsHeaded k records d → c ≡ overwritten 0 (1 ∷ []) d → StandsFor k c
+    pub headed_opens : (d c : List ℕ) → IsHeaded k records d → c ≡ overwritten 0 (1 ∷ []) d → AreaRepresents k c
     unfolding text
     headed_opens d c was written =
         opened 1 was.0 c (omega arith) (written ∙ ap (overwritten 0 (1 ∷ [])) was.1 ∙ put_inside [] (0 ∷ (text ++ (records ++ 0 ∷ was.0))) (1 ∷ []) 0 refl)

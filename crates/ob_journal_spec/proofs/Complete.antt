@@ -13,7 +13,7 @@ use Rattle.ob_format_spec.proofs.CombinatorLaws.{rest_bytes, Case, is_done, is_s
 use Rattle.ob_format_spec.proofs.NumberLaws.{number_lawful, integer_lawful}
 use Rattle.ob_format_spec.proofs.KindLaws.{literal_lawful}
 use Rattle.ob_journal_spec.specs.Spellings.{sized}
-use Rattle.ob_journal_spec.specs.Areas.{Journaled, Front, StandsFor, IsBlank, IsOpen, HasHeader, IsNoStore, HasRecord, IsDamaged, with_payload}
+use Rattle.ob_journal_spec.specs.Areas.{Journaled, Front, AreaRepresents, IsBlank, IsOpen, HasHeader, IsNoStore, HasRecord, IsDamaged, with_payload}
 use Rattle.ob_journal_spec.specs.Disks.{Place, first, second, other_place, start_of, area_at, GoesBefore, IsOlder, IsJournalAt, IsBlankDisk, IsNoStoreDisk, IsDamagedDisk}
 use Rattle.ob_journal_spec.proofs.DiskReading.{journal_at, damaged_at}
 use Rattle.ob_journal_spec.proofs.Older.{goes_before}
@@ -138,7 +138,7 @@ take_bytes (suc n) (b ∷ bytes) are = (are.0, take_bytes n bytes are.1)
 
 -- behind its header it represents something, or is damaged
 Ends : List ℕ → Type 0
-Ends area = ((j : Journaled) × StandsFor j area) ⊎ ((n : ℕ) × IsDamaged n area)
+Ends area = ((j : Journaled) × AreaRepresents j area) ⊎ ((n : ℕ) × IsDamaged n area)
 
 at_gate : (j : Journaled) (area : List ℕ) (gate : ℕ) → Front j (take gate area) → gate < length area
     → ((payload : List ℕ) → Front (with_payload j payload) (take (gate + (5 + length payload)) area) → gate + (5 + length payload) < length area → Ends area)

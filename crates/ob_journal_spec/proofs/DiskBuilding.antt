@@ -3,7 +3,7 @@
 use Rattle.std.proofs.Common.{◌≡◌, ◌⊎◌, inl, inr, ⊎_elim, ℕ, ◌+◌, ◌≤◌, List, [], ◌∷◌, ◌++◌, length, Option, Some, None, refl, sym, ◌∙◌, ap, subst, arith, append_assoc}
 use Rattle.ob_disk_spec.specs.Disk.{Torn, overwritten}
 use Rattle.ob_journal_spec.specs.Spellings.{header}
-use Rattle.ob_journal_spec.specs.Areas.{Journaled, StandsFor, IsBlank}
+use Rattle.ob_journal_spec.specs.Areas.{Journaled, AreaRepresents, IsBlank}
 use Rattle.ob_journal_spec.specs.Disks.{Place, first, second, other_place, start_of, area_at, IsJournalAt, moved}
 use Rattle.ob_journal_spec.specs.Building.{IsClosed, IsSpelled, IsBefore, StandsThere, CanFollow, IsClosedBeside, IsShutBeside}
 use Rattle.ob_journal_spec.proofs.Beginning.{short_closed, closed_torn, heads, headed_torn, headed_opens}
@@ -12,7 +12,7 @@ use Rattle.ob_journal_spec.proofs.Older.{stands_header, next_goes_before, older_
 use Rattle.ob_journal_spec.proofs.Unique.{blank_or_stands}
 
 -- more bytes behind it change nothing of what an area represents
-pub stands_grows : (j : Journaled) (old new : List ℕ) → Grows old new → StandsFor j old → StandsFor j new
+pub stands_grows : (j : Journaled) (old new : List ℕ) → Grows old new → AreaRepresents j old → AreaRepresents j new
 stands_grows j old new more was = record {
   front = was.front;
   behind = was.behind ++ more.0;
@@ -25,7 +25,7 @@ twice first = refl
 twice second = refl
 
 -- a write beside a journal: it stays
-pub other_stands : (size : ℕ) (place : Place) (at n : ℕ) (d c : List ℕ) (j : Journaled) → at + n ≤ size → Torn (start_of size (other_place place) + at) n d c → StandsFor j (area_at size place d) → StandsFor j (area_at size place c)
+pub other_stands : (size : ℕ) (place : Place) (at n : ℕ) (d c : List ℕ) (j : Journaled) → at + n ≤ size → Torn (start_of size (other_place place) + at) n d c → AreaRepresents j (area_at size place d) → AreaRepresents j (area_at size place c)
 other_stands size place at n d c j within torn was =
     let grows : Grows (area_at size place d) (area_at size place c) = subst (λ (p : Place). Grows (area_at size p d) (area_at size p c)) (twice place) (other_grows size (other_place place) at n d c within torn) in
     stands_grows j (area_at size place d) (area_at size place c) grows was
@@ -59,14 +59,14 @@ before_torn size place (Some j) new can d c within torn is_open before = record 
 }
 
 -- the new journal is current, where it stands
-new_current : (size : ℕ) (place : Place) (was : Option Journaled) (new : Journaled) → CanFollow was place new → (c : List ℕ) → StandsThere was (area_at size place c) → StandsFor new (area_at size (other_place place) c) → IsJournalAt size (other_place place) new c
+new_current : (size : ℕ) (place : Place) (was : Option Journaled) (new : Journaled) → CanFollow was place new → (c : List ℕ) → StandsThere was (area_at size place c) → AreaRepresents new (area_at size (other_place place) c) → IsJournalAt size (other_place place) new c
 new_current size first None new can c there stands = absurd can
 new_current size second None new can c there stands = record { current = stands; older = inl there }
 new_current size first (Some j) new can c there stands = record { current = stands; older = inr (j.serial, j.image, can, stands_header j (area_at size first c) there) }
 new_current size second (Some j) new can c there stands = record { current = stands; older = inr (j.serial, j.image, can, stands_header j (area_at size second c) there) }
 
 -- what represents something begins with no closed gate
-pub stands_open : (j : Journaled) (area : List ℕ) → StandsFor j area → (rest : List ℕ) → area ≡ 0 ∷ rest → ⊥
+pub stands_open : (j : Journaled) (area : List ℕ) → AreaRepresents j area → (rest : List ℕ) → area ≡ 0 ∷ rest → ⊥
 stands_open j area stands rest is = blank_or_stands area j (inr (rest, is)) stands
 
 -- a journal may move

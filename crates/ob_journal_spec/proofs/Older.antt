@@ -4,7 +4,7 @@ use Rattle.std.specs.Prelude.{pos, ◌+ℤ◌}
 use Rattle.std.proofs.lemmas.Int.{ints, by_lt_z}
 use Rattle.ob_disk_spec.specs.Disk.{Torn}
 use Rattle.ob_journal_spec.specs.Spellings.{header}
-use Rattle.ob_journal_spec.specs.Areas.{Journaled, StandsFor, IsBlank, HasHeader, IsDamaged}
+use Rattle.ob_journal_spec.specs.Areas.{Journaled, AreaRepresents, IsBlank, HasHeader, IsDamaged}
 use Rattle.ob_journal_spec.specs.Disks.{Place, first, second, other_place, GoesBefore, IsOlder}
 use Rattle.ob_journal_spec.proofs.Bytes.{torn_byte}
 use Rattle.ob_journal_spec.proofs.Beginning.{short_torn}
@@ -13,7 +13,7 @@ use Rattle.ob_journal_spec.proofs.Unique.{tail, front_header}
 
 -- ---- headers
 
-pub stands_header : (j : Journaled) (area : List ℕ) → StandsFor j area → HasHeader j.serial j.image area
+pub stands_header : (j : Journaled) (area : List ℕ) → AreaRepresents j area → HasHeader j.serial j.image area
 stands_header j area s = front_header j area s.front s.behind 0 s.open_front s.is
 
 pub damaged_header : (n : ℕ) (area : List ℕ) (d : IsDamaged n area) → HasHeader d.before.serial d.before.image area

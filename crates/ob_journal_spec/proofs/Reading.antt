@@ -4,7 +4,7 @@ use Rattle.std.proofs.lemmas.List.{take_at, drop_more, append-nil}
 use Rattle.ob_base.specs.Bytes.{u32_bytes}
 use Rattle.ob_base.proofs.FieldsLemmas.{one_u32}
 use Rattle.ob_journal_spec.specs.Spellings.{sized, header}
-use Rattle.ob_journal_spec.specs.Areas.{Journaled, Front, StandsFor, HasHeader, HasRecord, IsDamaged, next_gate, with_payload}
+use Rattle.ob_journal_spec.specs.Areas.{Journaled, Front, AreaRepresents, HasHeader, HasRecord, IsDamaged, next_gate, with_payload}
 use Rattle.ob_journal_spec.proofs.Spelled.{length-sized, length-header}
 use Rattle.ob_journal_spec.proofs.Bytes.{length-front, front-append}
 
@@ -42,7 +42,7 @@ one_more j bytes payload gate front within is_open r same =
     )
 
 -- the gate is closed
-pub closes : (j : Journaled) (bytes : List ℕ) (gate : ℕ) → Front j (take gate bytes) → gate < length bytes → get_or bytes gate 0 ≡ 0 → StandsFor j bytes
+pub closes : (j : Journaled) (bytes : List ℕ) (gate : ℕ) → Front j (take gate bytes) → gate < length bytes → get_or bytes gate 0 ≡ 0 → AreaRepresents j bytes
 closes j bytes gate front within closed = record {
   front = take gate bytes;
   behind = drop (gate + 1) bytes;

@@ -1,7 +1,7 @@
 -- An area has one meaning, or one cause to have none.
 use Rattle.std.proofs.Common.{◌≡◌, ◌⊎◌, inl, inr, ℕ, ℤ, ◌<◌, List, [], ◌∷◌, ◌++◌, length, refl, sym, ◌∙◌, ap, arith, append_assoc, length-append}
 use Rattle.ob_journal_spec.specs.Spellings.{sized, header}
-use Rattle.ob_journal_spec.specs.Areas.{Journaled, Records, Front, StandsFor, IsBlank, IsOpen, HasHeader, IsNoStore, HasRecord, IsDamaged}
+use Rattle.ob_journal_spec.specs.Areas.{Journaled, Records, Front, AreaRepresents, IsBlank, IsOpen, HasHeader, IsNoStore, HasRecord, IsDamaged}
 use Rattle.ob_journal_spec.proofs.Spelled.{one_sized, one_header, length-header}
 
 pub head : {a b : ℕ} {x y : List ℕ} → a ∷ x ≡ b ∷ y → a ≡ b
@@ -78,7 +78,7 @@ same_fronts j k a b g h x y s t e f is =
 
 -- ---- one meaning
 
-pub one_stands : (area : List ℕ) (j k : Journaled) → StandsFor j area → StandsFor k area → j ≡ k
+pub one_stands : (area : List ℕ) (j k : Journaled) → AreaRepresents j area → AreaRepresents k area → j ≡ k
 unfolding Ends
 one_stands area j k s t = (same_fronts j k s.front t.front 0 0 s.behind t.behind s.open_front t.open_front (inl refl) (inl refl) (sym s.is ∙ t.is)).0
 
@@ -89,7 +89,7 @@ one_damage area m n s t =
 
 -- ---- never two
 
-pub whole_or_damaged : (area : List ℕ) (j : Journaled) (n : ℕ) → StandsFor j area → IsDamaged n area → ⊥
+pub whole_or_damaged : (area : List ℕ) (j : Journaled) (n : ℕ) → AreaRepresents j area → IsDamaged n area → ⊥
 unfolding Ends
 whole_or_damaged area j n s t =
     let same = same_fronts j t.before s.front t.front 0 t.gate s.behind t.behind s.open_front t.open_front (inl refl) (inr t.no_record) (sym s.is ∙ t.is) in
@@ -123,7 +123,7 @@ pub blank_or_open : (area : List ℕ) → IsBlank area → IsOpen area → ⊥
 blank_or_open area (inl short) s = omega (arith, short, ap length s.is, s.some)
 blank_or_open area (inr closed) s = let gates = head (sym s.is ∙ closed.1) in omega (arith, gates, s.is_open)
 
-pub blank_or_stands : (area : List ℕ) (j : Journaled) → IsBlank area → StandsFor j area → ⊥
+pub blank_or_stands : (area : List ℕ) (j : Journaled) → IsBlank area → AreaRepresents j area → ⊥
 blank_or_stands area j blank s = blank_or_open area blank (front_open j area s.front s.behind 0 s.open_front s.is)
 
 pub blank_or_damaged : (area : List ℕ) (n : ℕ) → IsBlank area → IsDamaged n area → ⊥
@@ -132,7 +132,7 @@ blank_or_damaged area n blank s = blank_or_open area blank (front_open s.before 
 pub blank_or_no_store : (area : List ℕ) → IsBlank area → IsNoStore area → ⊥
 blank_or_no_store area blank s = blank_or_open area blank s.open_area
 
-pub no_store_or_stands : (area : List ℕ) (j : Journaled) → IsNoStore area → StandsFor j area → ⊥
+pub no_store_or_stands : (area : List ℕ) (j : Journaled) → IsNoStore area → AreaRepresents j area → ⊥
 no_store_or_stands area j none s = none.no_header j.serial j.image (front_header j area s.front s.behind 0 s.open_front s.is)
 
 pub no_store_or_damaged : (area : List ℕ) (n : ℕ) → IsNoStore area → IsDamaged n area → ⊥

@@ -1,6 +1,6 @@
 -- A disk represents one journal, or has one cause to represent none.
 use Rattle.std.proofs.Common.{◌≡◌, inl, inr, ℕ, ℤ, List, [], drop, refl, sym, ap, subst, arith, length-take, length-drop}
-use Rattle.ob_journal_spec.specs.Areas.{Journaled, StandsFor, IsBlank, HasHeader, IsNoStore, IsDamaged}
+use Rattle.ob_journal_spec.specs.Areas.{Journaled, AreaRepresents, IsBlank, HasHeader, IsNoStore, IsDamaged}
 use Rattle.ob_journal_spec.specs.Disks.{Place, first, second, other_place, start_of, area_at, GoesBefore, IsOlder, IsJournalAt, IsBlankDisk, IsNoStoreDisk, IsDamagedDisk}
 use Rattle.ob_journal_spec.proofs.Older.{stands_header, damaged_header, one_serial, never_both}
 use Rattle.ob_journal_spec.proofs.Unique.{one_stands, one_damage, whole_or_damaged, blank_or_no_store, blank_or_stands, blank_or_damaged}
@@ -46,7 +46,7 @@ one_place size second first s t bytes a b =
 pub one_journal : (size : ℕ) (bytes : List ℕ) (p q : Place) (j k : Journaled) → IsJournalAt size p j bytes → IsJournalAt size q k bytes → (p ≡ q) × (j ≡ k)
 one_journal size bytes p q j k a b =
     let same = one_place size p q j.serial k.serial bytes (journal_current size p j bytes a) (journal_current size q k bytes b) in
-    (same, one_stands (area_at size p bytes) j k a.current (subst (λ (x : Place). StandsFor k (area_at size x bytes)) (sym same) b.current))
+    (same, one_stands (area_at size p bytes) j k a.current (subst (λ (x : Place). AreaRepresents k (area_at size x bytes)) (sym same) b.current))
 
 pub one_damage_disk : (size : ℕ) (bytes : List ℕ) (m n : ℕ) → IsDamagedDisk size m bytes → IsDamagedDisk size n bytes → m ≡ n
 one_damage_disk size bytes m n a b =
@@ -96,7 +96,7 @@ no_store_or_damaged_disk size bytes offset none d = never_no_store size d.place 
 pub journal_or_damaged_disk : (size : ℕ) (bytes : List ℕ) (place : Place) (j : Journaled) (offset : ℕ) → IsJournalAt size place j bytes → IsDamagedDisk size offset bytes → ⊥
 journal_or_damaged_disk size bytes place j offset is d =
     let same = one_place size place d.place j.serial d.damaged.before.serial bytes (journal_current size place j bytes is) (damaged_current size offset bytes d) in
-    whole_or_damaged (area_at size d.place bytes) j d.within (subst (λ (x : Place). StandsFor j (area_at size x bytes)) same is.current) d.damaged
+    whole_or_damaged (area_at size d.place bytes) j d.within (subst (λ (x : Place). AreaRepresents j (area_at size x bytes)) same is.current) d.damaged
 
 -- a disk of no bytes
 pub no_bytes_blank : (size : ℕ) → IsBlankDisk size []

@@ -29,7 +29,7 @@ pub record Front (j : Journaled) (bytes : List ℕ) : Type 0 where
   pub payloads : Records j.payloads records
 
 -- An area represents this: behind its records is a closed gate, and behind that anything.
-pub record StandsFor (j : Journaled) (area : List ℕ) : Type 0 where
+pub record AreaRepresents (j : Journaled) (area : List ℕ) : Type 0 where
   pub front : List ℕ
   pub behind : List ℕ
   pub is : area ≡ front ++ 0 ∷ behind

@@ -2,7 +2,7 @@
 -- journal moves.
 use Rattle.std.specs.Prelude.{ℕ, pos, ◌≤ℤ◌, ◌≡◌, ⊤, List, ◌∷◌, ◌++◌, Option, Some, None}
 use Rattle.ob_journal_spec.specs.Spellings.{header}
-use Rattle.ob_journal_spec.specs.Areas.{Journaled, Records, StandsFor, IsBlank}
+use Rattle.ob_journal_spec.specs.Areas.{Journaled, Records, AreaRepresents, IsBlank}
 use Rattle.ob_journal_spec.specs.Disks.{Place, first, second, other_place, area_at, GoesBefore, IsJournalAt, IsBlankDisk}
 
 -- an area's gate is closed by a byte
@@ -27,7 +27,7 @@ IsBefore size place (Some j) bytes = IsJournalAt size place j bytes
 -- the same of the area of this place
 abbrev pub StandsThere : Option Journaled → List ℕ → Type 0
 StandsThere None area = IsBlank area
-StandsThere (Some j) area = StandsFor j area
+StandsThere (Some j) area = AreaRepresents j area
 
 -- A new journal may be built beside this place: on a blank disk in the first area, and else with a serial that goes before.
 abbrev pub CanFollow : Option Journaled → Place → Journaled → Type 0

@@ -1,7 +1,7 @@
 -- Which journal the two areas of a disk represent, or why they represent none (this project's own). Both areas have one size, and the second
 -- begins where the first ends.
 use Rattle.std.specs.Prelude.{ℕ, ℤ, pos, ◌≤ℤ◌, ◌<ℤ◌, ◌+ℤ◌, ◌≡◌, ◌+◌, ◌⊎◌, List, [], ◌∷◌, drop}
-use Rattle.ob_journal_spec.specs.Areas.{Journaled, StandsFor, IsBlank, IsNoStore, IsDamaged, HasHeader, area_of, begun, with_payload}
+use Rattle.ob_journal_spec.specs.Areas.{Journaled, AreaRepresents, IsBlank, IsNoStore, IsDamaged, HasHeader, area_of, begun, with_payload}
 
 -- one of the two areas
 pub data Place : Type 0 where
@@ -34,7 +34,7 @@ IsOlder place serial area = IsBlank area ⊎ ((older : ℤ) × (image : List ℕ
 
 -- a disk represents what its current area does, which is that of this place
 pub record IsJournalAt (size : ℕ) (place : Place) (j : Journaled) (bytes : List ℕ) : Type 0 where
-  pub current : StandsFor j (area_at size place bytes)
+  pub current : AreaRepresents j (area_at size place bytes)
   pub older : IsOlder place j.serial (area_at size (other_place place) bytes)
 
 -- both areas are blank

@@ -1,23 +1,23 @@
 //! What holds of each area, and of the two areas of each disk.
 ghost use Rattle.std.specs.Prelude.{◌≡◌, ◌⊎◌, ℕ, List};
 ghost use Rattle.ob_format_spec.specs.Lawful.{AreBytes};
-ghost use Rattle.ob_journal_spec.specs.Areas.{Journaled, StandsFor, IsBlank, IsNoStore, IsDamaged};
+ghost use Rattle.ob_journal_spec.specs.Areas.{Journaled, AreaRepresents, IsBlank, IsNoStore, IsDamaged};
 ghost use Rattle.ob_journal_spec.specs.Disks.{Place, IsJournalAt, IsBlankDisk, IsNoStoreDisk, IsDamagedDisk};
 
-/// An area stands for one thing at most, and is damaged at one offset at most.
+/// An area represents one thing at most, and is damaged at one offset at most.
 pub fn one_meaning()
-    ensures stands { (area : List ℕ) (j k : Journaled) → StandsFor j area → StandsFor k area → j ≡ k }
+    ensures stands { (area : List ℕ) (j k : Journaled) → AreaRepresents j area → AreaRepresents k area → j ≡ k }
     ensures offset { (area : List ℕ) (m n : ℕ) → IsDamaged m area → IsDamaged n area → m ≡ n }
 {}
 
-/// An area isn't two of these at once: blank, no store, damaged, or one that stands for something.
+/// An area isn't two of these at once: blank, no store, damaged, or one that represents something.
 pub fn one_outcome()
     ensures blank_or_no_store { (area : List ℕ) → IsBlank area → ¬ (IsNoStore area) }
     ensures blank_or_damaged { (area : List ℕ) (n : ℕ) → IsBlank area → ¬ (IsDamaged n area) }
-    ensures blank_or_stands { (area : List ℕ) (j : Journaled) → IsBlank area → ¬ (StandsFor j area) }
+    ensures blank_or_stands { (area : List ℕ) (j : Journaled) → IsBlank area → ¬ (AreaRepresents j area) }
     ensures no_store_or_damaged { (area : List ℕ) (n : ℕ) → IsNoStore area → ¬ (IsDamaged n area) }
-    ensures no_store_or_stands { (area : List ℕ) (j : Journaled) → IsNoStore area → ¬ (StandsFor j area) }
-    ensures whole_or_damaged { (area : List ℕ) (j : Journaled) (n : ℕ) → StandsFor j area → ¬ (IsDamaged n area) }
+    ensures no_store_or_stands { (area : List ℕ) (j : Journaled) → IsNoStore area → ¬ (AreaRepresents j area) }
+    ensures whole_or_damaged { (area : List ℕ) (j : Journaled) (n : ℕ) → AreaRepresents j area → ¬ (IsDamaged n area) }
 {}
 
 /// A disk represents one journal at most, by one of its areas, and is damaged at one offset at most.

@@ -1,4 +1,4 @@
-//! What the bytes of a disk stand for: areas with their headers and records, and where they are none.
+//! What the bytes of a disk represent: areas with their headers and records, and where they are none.
 #![tactic(auto)]
 
 mod laws;

@@ -18,7 +18,7 @@ use Rattle.ob_lanes_laws.specs.Requests.{has_ended}
 use Rattle.ob_lanes_laws.specs.Turns.{first_start, started, turned, next_lane, is_answered, are_done_from}
 use Rattle.ob_lanes_laws.proofs.Keeping.{none_is_some, some_same, differ}
 use Rattle.ob_lanes.specs.Starting.{are_all_done}
-use Rattle.ob_lanes.specs.Standing.{Fits, rules_on, BusyLane, State, IsLane, requests_of, LanesStandFor, NoneHasEnded, EndsAlone, OthersGoOn, Tells, LaneTells, HadTurn, CanTurn, TurnComesTo, Answers, Turned}
+use Rattle.ob_lanes.specs.Standing.{Fits, rules_on, BusyLane, State, IsLane, requests_of, LanesRepresent, NoneHasEnded, EndsAlone, OthersGoOn, Tells, LaneTells, HadTurn, CanTurn, TurnComesTo, Answers, Turned}
 use Rattle.ob_lanes.specs.declared.batch.Busy.{Busy}
 use Rattle.ob_lanes.specs.declared.batch.BatchRequest.{BatchRequest}
 use Rattle.ob_lanes.specs.declared.lanes.Lanes.{Lanes}
@@ -45,7 +45,7 @@ record EntryOf (entries : List BatchRequest) (s : BusyLane) : Type 0 where
   entry : BatchRequest
   is : slice_get entries s.number ≡ Some entry
 
-entry_at : (image : Image) (fuel : ℕ) (base : Stored) (entries : List BatchRequest) (lanes : List (Option Busy)) (l : State) (k : ℕ) (s : BusyLane) → LanesStandFor image fuel base entries lanes l → slice_get l.lanes k ≡ Some (Some s) → EntryOf entries s
+entry_at : (image : Image) (fuel : ℕ) (base : Stored) (entries : List BatchRequest) (lanes : List (Option Busy)) (l : State) (k : ℕ) (s : BusyLane) → LanesRepresent image fuel base entries lanes l → slice_get l.lanes k ≡ Some (Some s) → EntryOf entries s
 entry_at image fuel base entries lanes l k s h e = by (pair_at image fuel base entries lanes l.lanes k h.each)
   where
     busy : (b : Option Busy) → IsLane image fuel base entries b (Some s) → EntryOf entries s
@@ -68,7 +68,7 @@ eq_itself n = (Decides-eqb n n).1 refl
 told_lane : (base : Stored) (entries : List BatchRequest) (y : Option (Option BusyLane)) (s : BusyLane) (outcome : SliceOutcome) → y ≡ Some (Some s) → LaneTells base entries y outcome → (e : EntryOf entries s) → Tells base e.entry.request.id s.run outcome
 told_lane base entries y s outcome e h en = let its = subst (λ x. LaneTells base entries x outcome) e h in its en.entry en.is
 
-pub ends_alone : (image : Image) (fuel : ℕ) (base : Stored) (entries : List BatchRequest) (lanes : List (Option Busy)) (k : ℕ) (l : State) (reply : Reply) (delta : Delta) → LanesStandFor image fuel base entries lanes l → OthersGoOn k l
+pub ends_alone : (image : Image) (fuel : ℕ) (base : Stored) (entries : List BatchRequest) (lanes : List (Option Busy)) (k : ℕ) (l : State) (reply : Reply) (delta : Delta) → LanesRepresent image fuel base entries lanes l → OthersGoOn k l
     → LaneTells base entries (slice_get l.lanes k) (slice_outcome.Ended reply delta) → EndsAlone k l
 ends_alone image fuel base entries lanes k l reply delta h o t = λ j b e. same_or j k (has_ended b.run ≡ nat_eq j k)
     (λ s. tells_ended base (entry_at image fuel base entries lanes l j b h e).entry.request.id b.run reply delta
@@ -76,7 +76,7 @@ ends_alone image fuel base entries lanes k l reply delta h o t = λ j b e. same_
     ∙ sym (ap (λ m. nat_eq m k) s ∙ eq_itself k))
     (λ n. o j b e n ∙ sym (differ j k n))
 
-pub none_ends : (image : Image) (fuel : ℕ) (base : Stored) (entries : List BatchRequest) (lanes : List (Option Busy)) (k : ℕ) (l : State) → LanesStandFor image fuel base entries lanes l → OthersGoOn k l
+pub none_ends : (image : Image) (fuel : ℕ) (base : Stored) (entries : List BatchRequest) (lanes : List (Option Busy)) (k : ℕ) (l : State) → LanesRepresent image fuel base entries lanes l → OthersGoOn k l
     → LaneTells base entries (slice_get l.lanes k) slice_outcome.Paused → NoneHasEnded l
 none_ends image fuel base entries lanes k l h o t = λ j b e. same_or j k (has_ended b.run ≡ false)
     (λ s. tells_going base (entry_at image fuel base entries lanes l j b h e).entry.request.id b.run
@@ -91,7 +91,7 @@ done_from k (e ∷ es) l h =
     ap (λ b. b && are_all_done es) (sym (h zero e refl) ∙ ap (λ n. is_done n l.done) (omega arith))
     ∙ ap (λ c. is_done k l.done && c) (done_from (suc k) es l (λ i x f. ap (λ n. is_done n l.done) (omega arith) ∙ h (suc i) x f))
 
-pub all_done : (image : Image) (fuel : ℕ) (base : Stored) (entries : List BatchRequest) (lanes : List (Option Busy)) (l : State) → LanesStandFor image fuel base entries lanes l → are_all_done entries ≡ is_answered (requests_of entries) l
+pub all_done : (image : Image) (fuel : ℕ) (base : Stored) (entries : List BatchRequest) (lanes : List (Option Busy)) (l : State) → LanesRepresent image fuel base entries lanes l → are_all_done entries ≡ is_answered (requests_of entries) l
 all_done image fuel base entries lanes l h = done_from 0 entries l (λ i e f. ap (λ n. is_done n l.done) (omega arith) ∙ h.done i e f)
 
 -- The answer.
@@ -102,7 +102,7 @@ going_so base batch entries k l true turn next t n g a = subst (λ x. Answers ba
 going_so base batch entries k l false turn next t n g a = subst (λ x. Answers base batch entries k l x next) (sym t) (g, a, n)
 
 -- by what the slice of the lane has led to
-pub answers_so : (image : Image) (fuel : ℕ) (base : Stored) (mid : Lanes) (l : State) (outcome : SliceOutcome) (turn : Turn) (next : ℕ) → LanesStandFor image fuel base mid.entries.items mid.lanes.items l → OthersGoOn mid.next l
+pub answers_so : (image : Image) (fuel : ℕ) (base : Stored) (mid : Lanes) (l : State) (outcome : SliceOutcome) (turn : Turn) (next : ℕ) → LanesRepresent image fuel base mid.entries.items mid.lanes.items l → OthersGoOn mid.next l
     → LaneTells base mid.entries.items (slice_get l.lanes mid.next) outcome → TurnComesTo mid outcome next turn → Answers base (requests_of mid.entries.items) mid.entries.items mid.next l turn next
 answers_so image fuel base mid l (slice_outcome.Ended reply delta) turn next h o t g =
     subst (λ x. Answers base (requests_of mid.entries.items) mid.entries.items mid.next l x next) (sym g.0)
@@ -162,7 +162,7 @@ pub turned_so : (image : Image) (fuel : ℕ) (batch : List Request) (base : Stor
 turned_so image fuel batch base old mid new l outcome turn can s1 n1 e1 had g s2 e2 l2 = record {
   stands = λ fits. record {
     requests = can.stands.requests ∙ ap requests_of (sym (e2 ∙ e1));
-    state = subst (λ es. LanesStandFor image fuel base es new.lanes.items (after fits)) (sym e2) (subst (λ ls. LanesStandFor image fuel base mid.entries.items ls (after fits)) (sym l2) (those fits));
+    state = subst (λ es. LanesRepresent image fuel base es new.lanes.items (after fits)) (sym e2) (subst (λ ls. LanesRepresent image fuel base mid.entries.items ls (after fits)) (sym l2) (those fits));
     next = subst (λ ls. new.next < length ls) (sym l2) (turn_within mid outcome new.next turn g within_mid);
     slice = subst (λ n. 0 < n) (sym (s2 ∙ s1)) can.stands.slice;
   };
@@ -183,9 +183,9 @@ turned_so image fuel batch base old mid new l outcome turn can s1 n1 e1 had g s2
     of_batch : (P : State → Type 0) (fits : Fits) → P (turned (rules_on fits image fuel) (requests_of old.entries.items) old.slice old.next l) → P (turned (rules_on fits image fuel) batch old.slice old.next l)
     of_batch P fits h = subst (λ q. P (turned (rules_on fits image fuel) q old.slice old.next l)) (sym can.stands.requests) h
 
-    those : (fits : Fits) → LanesStandFor image fuel base mid.entries.items mid.lanes.items (turned (rules_on fits image fuel) batch old.slice old.next l)
-    those fits = subst (λ es. LanesStandFor image fuel base es mid.lanes.items (turned (rules_on fits image fuel) batch old.slice old.next l)) (sym e1)
-        (of_batch (λ x. LanesStandFor image fuel base old.entries.items mid.lanes.items x) fits (had.state fits))
+    those : (fits : Fits) → LanesRepresent image fuel base mid.entries.items mid.lanes.items (turned (rules_on fits image fuel) batch old.slice old.next l)
+    those fits = subst (λ es. LanesRepresent image fuel base es mid.lanes.items (turned (rules_on fits image fuel) batch old.slice old.next l)) (sym e1)
+        (of_batch (λ x. LanesRepresent image fuel base old.entries.items mid.lanes.items x) fits (had.state fits))
 
     others : (fits : Fits) → OthersGoOn mid.next (turned (rules_on fits image fuel) batch old.slice old.next l)
     others fits = subst (λ n. OthersGoOn n (turned (rules_on fits image fuel) batch old.slice old.next l)) (sym n1) (of_batch (λ x. OthersGoOn old.next x) fits (had.others fits))

@@ -25,7 +25,8 @@ use Rattle.ob_heap.specs.Ascending.{IsBelowAll, IsAscending}
 use Rattle.ob_heap.specs.Contents.{Stored, content_of, name_of, named_of}
 use Rattle.ob_heap.specs.Contents as kept
 use Rattle.ob_heap.specs.Deltas.{AreNext, with_handles, change_at}
-use Rattle.ob_heap.specs.Differences.{with_objects, same_truth}
+use Rattle.ob_heap_spec.specs.Operations.{same_truth}
+use Rattle.ob_heap.specs.Differences.{with_objects}
 use Rattle.ob_heap.specs.Plain.{object_of, handle_of}
 use Rattle.ob_heap.proofs.DeltasLemmas.{with_objects-le}
 use Rattle.ob_heap.proofs.HandlesLemmas.{names_total, equal_is}

@@ -1,4 +1,4 @@
--- The lanes stand for the schedule after a commit.
+-- The lanes represent the schedule after a commit.
 use Rattle.std.proofs.Common.{◌≡◌, ℕ, ◌<◌, Bool, true, false, ◌||◌, List, map, length, Option, Some, None, sym, ap, ◌∙◌, subst}
 use Rattle.std.specs.Prelude.{nat_eq, slice_get, slice_set, option_map, if◌then◌else◌}
 use Rattle.std.specs.Option.{unwrap_or}
@@ -24,7 +24,7 @@ use Rattle.ob_lanes_laws.proofs.Keeping.{none_is_some, some_same, differ}
 use Rattle.ob_lanes_laws.proofs.Requests.{requests_fit}
 use Rattle.ob_lanes_laws.specs.Turns.{next_lane}
 use Rattle.ob_lanes.specs.Committing.{reopened, lane_at, answered_in, lanes_after}
-use Rattle.ob_lanes.specs.Standing.{Fits, contents, rules_on, BusyLane, State, given_run, IsBusy, IsLane, AreLanes, requests_of, LanesStandFor, NoneHasEnded, EndsAlone, committed_by, Waits, Commits}
+use Rattle.ob_lanes.specs.Standing.{Fits, contents, rules_on, BusyLane, State, given_run, IsBusy, IsLane, AreLanes, requests_of, LanesRepresent, NoneHasEnded, EndsAlone, committed_by, Waits, Commits}
 use Rattle.ob_lanes.specs.declared.lanes.Lanes.{Lanes}
 use Rattle.ob_lanes.specs.declared.batch.Busy.{Busy}
 use Rattle.ob_lanes.specs.declared.batch.BatchRequest.{BatchRequest}
@@ -45,7 +45,7 @@ pub record Committer (image : Image) (fuel : ℕ) (base : Stored) (entries : Lis
   pub lane_is : slice_get lanes k ≡ Some (Some lane)
   pub is : IsBusy image fuel base entries lane s
 
-pub committer : (image : Image) (fuel : ℕ) (base : Stored) (entries : List BatchRequest) (lanes : List (Option Busy)) (l : State) (k : ℕ) (s : BusyLane) → LanesStandFor image fuel base entries lanes l → slice_get l.lanes k ≡ Some (Some s)
+pub committer : (image : Image) (fuel : ℕ) (base : Stored) (entries : List BatchRequest) (lanes : List (Option Busy)) (l : State) (k : ℕ) (s : BusyLane) → LanesRepresent image fuel base entries lanes l → slice_get l.lanes k ≡ Some (Some s)
     → Committer image fuel base entries lanes k s
 committer image fuel base entries lanes l k s h at = by (pair_at image fuel base entries lanes l.lanes k h.each)
   where
@@ -65,14 +65,14 @@ done_after n m b entries e x is number at told f = same_or n b.number (nat_eq n 
     ∙ ap (λ (y : BatchRequest). y.is_done) (some_same (record e { is_done = true }) x (sym (answered_here b entries e at) ∙ ap (slice_get (answered_in (Some b) entries)) (sym same) ∙ f)))
     (λ other. ap (λ t. t || is n) (differ n m (λ q. other (q ∙ sym number))) ∙ told n x (sym (answered_get b entries e n at other) ∙ f))
 
--- What is kept after a commit stands for the schedule after it.
+-- What is kept after a commit represents the schedule after it.
 pub commit_stands : (fits : Fits) (image : Image) (fuel : ℕ) (before after : Stored) (delta : Delta) (entries : List BatchRequest) (lanes : List (Option Busy)) (l : State) (k : ℕ) (s : BusyLane) (b : Busy)
     → LeadsAheadOrToUnit image → KeepsStores image → IsStoreAtRest (table_of_image image) (content_of before) → LeadsTo before delta (content_of after) → OfEach HasLabels (requests_of entries)
-    → LanesStandFor image fuel before entries lanes l → slice_get l.lanes k ≡ Some (Some s) → EndsAlone k l → IsBusy image fuel before entries b s
+    → LanesRepresent image fuel before entries lanes l → slice_get l.lanes k ≡ Some (Some s) → EndsAlone k l → IsBusy image fuel before entries b s
     → (committed_by fits image fuel (requests_of entries) k l).store ≡ content_of after
-    → LanesStandFor image fuel after (answered_in (Some b) entries) (lanes_after before delta k lanes) (committed_by fits image fuel (requests_of entries) k l) × NoneHasEnded (committed_by fits image fuel (requests_of entries) k l)
+    → LanesRepresent image fuel after (answered_in (Some b) entries) (lanes_after before delta k lanes) (committed_by fits image fuel (requests_of entries) k l) × NoneHasEnded (committed_by fits image fuel (requests_of entries) k l)
 commit_stands fits image fuel before after delta entries lanes l k s b ahead keeps rest differs labelled h at alone i store =
-    subst (λ x. LanesStandFor image fuel after (answered_in (Some b) entries) (lanes_after before delta k lanes) x × NoneHasEnded x) (sym its)
+    subst (λ x. LanesRepresent image fuel after (answered_in (Some b) entries) (lanes_after before delta k lanes) x × NoneHasEnded x) (sym its)
     (record { store = there; done = λ n x f. done_after n s.number b entries i.entry x (λ m. is_done m l.done) i.number i.entry_is h.done f; each = moved }, goes)
   where
     its : committed_by fits image fuel (requests_of entries) k l ≡ committed (rules_on fits image fuel) k s l
@@ -128,8 +128,8 @@ pub commits_so : (image : Image) (fuel : ℕ) (batch : List Request) (before : S
 commits_so image fuel batch before delta after old new l w lanes entries next slice fits ahead keeps labels rest differs store = (
   record {
     requests = w.stands.requests ∙ sym (answered_requests at.lane old.entries.items at.is.entry at.is.entry_is) ∙ ap requests_of (sym its);
-    state = subst (λ es. LanesStandFor image fuel after es new.lanes.items (committed_by fits image fuel batch old.next l)) (sym its)
-        (subst (λ ls. LanesStandFor image fuel after (answered_in (Some at.lane) old.entries.items) ls (committed_by fits image fuel batch old.next l)) (sym lanes) both.0);
+    state = subst (λ es. LanesRepresent image fuel after es new.lanes.items (committed_by fits image fuel batch old.next l)) (sym its)
+        (subst (λ ls. LanesRepresent image fuel after (answered_in (Some at.lane) old.entries.items) ls (committed_by fits image fuel batch old.next l)) (sym lanes) both.0);
     next = subst (λ n. n < length new.lanes.items) (sym next) (subst (λ m. next_lane (length old.lanes.items) old.next < m) (sym count) (next_within (length old.lanes.items) old.next w.stands.next));
     slice = subst (λ n. 0 < n) (sym slice) w.stands.slice;
   },
@@ -145,9 +145,9 @@ commits_so image fuel batch before delta after old new l w lanes entries next sl
     count : length new.lanes.items ≡ length old.lanes.items
     count = ap length lanes ∙ length-map (slice_set old.lanes.items old.next None) (reopened before delta) ∙ set_length old.lanes.items old.next None
 
-    both : LanesStandFor image fuel after (answered_in (Some at.lane) old.entries.items) (lanes_after before delta old.next old.lanes.items) (committed_by fits image fuel batch old.next l)
+    both : LanesRepresent image fuel after (answered_in (Some at.lane) old.entries.items) (lanes_after before delta old.next old.lanes.items) (committed_by fits image fuel batch old.next l)
         × NoneHasEnded (committed_by fits image fuel batch old.next l)
-    both = subst (λ q. LanesStandFor image fuel after (answered_in (Some at.lane) old.entries.items) (lanes_after before delta old.next old.lanes.items) (committed_by fits image fuel q old.next l)
+    both = subst (λ q. LanesRepresent image fuel after (answered_in (Some at.lane) old.entries.items) (lanes_after before delta old.next old.lanes.items) (committed_by fits image fuel q old.next l)
         × NoneHasEnded (committed_by fits image fuel q old.next l)) (sym w.stands.requests)
         (commit_stands fits image fuel before after delta old.entries.items old.lanes.items l old.next w.lane at.lane ahead keeps rest differs
         (subst (OfEach HasLabels) w.stands.requests labels) w.stands.state w.lane_is w.ended at.is

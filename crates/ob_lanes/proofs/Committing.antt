@@ -17,7 +17,7 @@ use Rattle.ob_request_run_laws.specs.Slices.{slice}
 use Rattle.ob_wire.specs.Meanings.{request_of}
 use Rattle.ob_wire.specs.declared.request.Request as wire
 use Rattle.ob_exec.specs.Laws.{IsPaused}
-use Rattle.ob_exec.specs.Pausing.{StandsFor, StandsAt}
+use Rattle.ob_exec.specs.Pausing.{RunRepresents, StandsAt}
 use Rattle.ob_exec.specs.declared.stage.Stage.{Stage}
 use Rattle.ob_exec.specs.declared.stage.Stage.TheVariants as stage
 use Rattle.ob_exec.specs.declared.runs.Run.{Run}
@@ -56,13 +56,13 @@ pub record Setting (image : Image) (fuel : ℕ) (before : Stored) (delta : Delta
   pub still : IsStoreAtRest (table_of_image image) (content_of after)
   pub differs : LeadsTo before delta (content_of after)
 
-far_stands : (image : Image) (base : Stored) (r : plain.Run) (run : Run) → has_ended r ≡ false → IsAsFar image base r run → StandsFor image base r run.state
+far_stands : (image : Image) (base : Stored) (r : plain.Run) (run : Run) → has_ended r ≡ false → IsAsFar image base r run → RunRepresents image base r run.state
 far_stands image base (opened q) run e h = absurd h
 far_stands image base (paused q reads p held) run e h = h
 far_stands image base (answered a) run e h = absurd (true≢false e)
 far_stands image base lost run e h = absurd h
 
-stands_far : (image : Image) (base : Stored) (r : plain.Run) (run : Run) → has_ended r ≡ false → StandsFor image base r run.state → IsAsFar image base r run
+stands_far : (image : Image) (base : Stored) (r : plain.Run) (run : Run) → has_ended r ≡ false → RunRepresents image base r run.state → IsAsFar image base r run
 stands_far image base (opened q) run e h = absurd h.at
 stands_far image base (paused q reads p held) run e h = h
 stands_far image base (answered a) run e h = absurd (true≢false e)
@@ -98,15 +98,15 @@ moved image fuel before after delta request (u ∷ given) None s labels h e same
 moved image fuel before after delta request (u ∷ given) (Some run) s labels h e same fresh = (
   h.0,
   stands_far image after (given_run image fuel after request (u ∷ given)) run (ap has_ended same ∙ e)
-      (subst (λ (q : wire.Request). StandsFor image after (given_run image fuel after q (u ∷ given)) run.state) h.0
+      (subst (λ (q : wire.Request). RunRepresents image after (given_run image fuel after q (u ∷ given)) run.state) h.0
       (stand_elsewhere image fuel before after (in_order (u ∷ given)) run s.ahead s.rest
       (s.keeps (content_of before) (request_of run.request) fuel s.rest (subst (λ (q : wire.Request). HasLabels (request_of q)) (sym h.0) labels))
       (paused_stage image before (given_run image fuel before request (u ∷ given)) run.state.stage e stands.at)
       (changes_agree before delta after s.differs run.state.reads fresh)
-      (subst (λ (q : wire.Request). StandsFor image before (given_run image fuel before q (u ∷ given)) run.state) (sym h.0) stands))),
+      (subst (λ (q : wire.Request). RunRepresents image before (given_run image fuel before q (u ∷ given)) run.state) (sym h.0) stands))),
 )
   where
-    stands : StandsFor image before (given_run image fuel before request (u ∷ given)) run.state
+    stands : RunRepresents image before (given_run image fuel before request (u ∷ given)) run.state
     stands = far_stands image before (given_run image fuel before request (u ∷ given)) run e h.1
 
 -- The entries.

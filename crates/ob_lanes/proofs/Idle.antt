@@ -7,7 +7,7 @@ use Rattle.ob_wire.specs.Meanings.{request_of}
 use Rattle.ob_wire.specs.declared.request.Request as wire
 use Rattle.ob_lanes_laws.specs.Schedule.{idle}
 use Rattle.ob_lanes_laws.proofs.Keeping.{none_is_some, some_same}
-use Rattle.ob_lanes.specs.Standing.{AreLanes, requests_of, StandFor, waiting}
+use Rattle.ob_lanes.specs.Standing.{AreLanes, requests_of, LanesRepresentBatch, waiting}
 use Rattle.ob_lanes.specs.declared.batch.Busy.{Busy}
 use Rattle.ob_lanes.specs.declared.batch.BatchRequest.{BatchRequest}
 use Rattle.ob_lanes.specs.declared.lanes.Lanes.{Lanes}
@@ -34,7 +34,7 @@ idle_length (suc count) = ap suc (idle_length count)
 
 -- lanes with a batch of which nothing is under way
 pub idle_stands : (image : Image) (fuel : ℕ) (base : Stored) (batch : List wire.Request) (count : ℕ) (l : Lanes) → l.entries.items ≡ map waiting batch → l.lanes.items ≡ replicate count None → l.next ≡ 0 → 0 < count → 0 < l.slice
-    → StandFor image fuel (map request_of batch) base l (idle (content_of base) count)
+    → LanesRepresentBatch image fuel (map request_of batch) base l (idle (content_of base) count)
 idle_stands image fuel base batch count l entries lanes next some slice = record {
   requests = waiting_requests batch ∙ ap requests_of (sym entries);
   state = record {

@@ -4,7 +4,7 @@ use Rattle.std.specs.Prelude.{slice_get}
 use Rattle.ob_heap.specs.Contents.{Stored}
 use Rattle.ob_code.specs.declared.image.Image.{Image}
 use Rattle.ob_lanes_laws.proofs.Keeping.{some_same}
-use Rattle.ob_lanes.specs.Standing.{BusyLane, State, Holds, IsLane, LanesStandFor, Lends, run_of_lane, run_at}
+use Rattle.ob_lanes.specs.Standing.{BusyLane, State, Holds, IsLane, LanesRepresent, Lends, run_of_lane, run_at}
 use Rattle.ob_lanes.specs.declared.batch.Busy.{Busy}
 use Rattle.ob_lanes.specs.declared.batch.BatchRequest.{BatchRequest}
 use Rattle.ob_lanes.proofs.Standing.{Pair, beyond, within, pair_at}
@@ -16,7 +16,7 @@ lane_lends image fuel base entries (Some b) None h = absurd h
 lane_lends image fuel base entries (Some b) (Some s) h = λ e f.
     subst (λ (x : BatchRequest). Holds image fuel base x.request s.given b.run) (some_same h.entry e (sym h.entry_is ∙ ap (slice_get entries) h.number ∙ f)) h.holds
 
-pub lends_so : (image : Image) (fuel : ℕ) (base : Stored) (entries : List BatchRequest) (lanes : List (Option Busy)) (l : State) (k : ℕ) → LanesStandFor image fuel base entries lanes l → Lends image fuel base entries (slice_get l.lanes k) (run_at lanes k)
+pub lends_so : (image : Image) (fuel : ℕ) (base : Stored) (entries : List BatchRequest) (lanes : List (Option Busy)) (l : State) (k : ℕ) → LanesRepresent image fuel base entries lanes l → Lends image fuel base entries (slice_get l.lanes k) (run_at lanes k)
 lends_so image fuel base entries lanes l k h = by (pair_at image fuel base entries lanes l.lanes k h.each)
   where
     by : Pair image fuel base entries (slice_get lanes k) (slice_get l.lanes k) → Lends image fuel base entries (slice_get l.lanes k) (run_at lanes k)

@@ -10,7 +10,7 @@ use Rattle.ob_request_run_laws.specs.Slices.{slice}
 use Rattle.ob_wire.specs.Meanings.{request_of}
 use Rattle.ob_wire.specs.declared.request.Request.{Request}
 use Rattle.ob_exec_handles.specs.Coming.{IsInLimits}
-use Rattle.ob_exec.specs.Pausing.{StandsFor, IsRunOn, run_of}
+use Rattle.ob_exec.specs.Pausing.{RunRepresents, IsRunOn, run_of}
 use Rattle.ob_exec.specs.Pausing as exec
 use Rattle.ob_exec.specs.declared.runs.Run.{Run}
 use Rattle.ob_exec.specs.declared.runs.SliceOutcome.{SliceOutcome}
@@ -25,8 +25,8 @@ pub one_more : (image : Image) (fuel : ℕ) (base : Stored) (request : Request) 
     → slice image fuel (content_of base) units (given_run image fuel base request given) ≡ given_run image fuel base request (units ∷ given)
 one_more image fuel base request units given = sym (slices_then image fuel (content_of base) (in_order given) units (opened (request_of request)))
 
--- a run that is as far as one that hasn't ended stands for it
-as_far_stands : (image : Image) (base : Stored) (r : plain.Run) (run : Run) → IsAsFar image base r run → has_ended r ≡ false → StandsFor image base r run.state
+-- a run that is as far as one that hasn't ended represents it
+as_far_stands : (image : Image) (base : Stored) (r : plain.Run) (run : Run) → IsAsFar image base r run → has_ended r ≡ false → RunRepresents image base r run.state
 as_far_stands image base (opened q) run h e = absurd h
 as_far_stands image base (paused q reads p held) run h e = h
 as_far_stands image base (answered a) run h e = absurd (true≢false e)
@@ -43,7 +43,7 @@ held_ready image fuel base request (u ∷ given) run h = record {
 }
 
 -- and so is a new one, where none is
-pub started_ready : (image : Image) (fuel : ℕ) (base : Stored) (request : Request) (given : List ℕ) (run : Run) → run.request ≡ request → StandsFor image base (run_of image fuel base (0 ∷ []) request) run.state
+pub started_ready : (image : Image) (fuel : ℕ) (base : Stored) (request : Request) (given : List ℕ) (run : Run) → run.request ≡ request → RunRepresents image base (run_of image fuel base (0 ∷ []) request) run.state
     → GoesOn image fuel base request given None → IsReady image fuel base request given run
 started_ready image fuel base request [] run same stands h = record {
   request_is = same;
@@ -95,10 +95,10 @@ some_ready image fuel base request given None e h = absurd (true≢false (sym e)
 some_ready image fuel base request given (Some run) e h = held_ready image fuel base request given run h
 
 pub fresh_ready : {E : Type 0} (image : Image) (fuel : ℕ) (base : Stored) (request asked : Request) (given : List ℕ) (old : Option Run) (run : Run) (started : Result Run E) → is_some old ≡ false → started ≡ Ok run → asked ≡ request
-    → IfOk started (λ (r : Run). StandsFor image base (run_of image fuel base (0 ∷ []) asked) r.state) → IfOk started (λ (r : Run). r.request ≡ asked) → GoesOn image fuel base request given old
+    → IfOk started (λ (r : Run). RunRepresents image base (run_of image fuel base (0 ∷ []) asked) r.state) → IfOk started (λ (r : Run). r.request ≡ asked) → GoesOn image fuel base request given old
     → IsReady image fuel base request given run
 fresh_ready image fuel base request asked given (Some old) run started e is same stands asks h = absurd (true≢false e)
 fresh_ready image fuel base request asked given None run started e is same stands asks h =
-    let its = subst (λ o. IfOk o (λ (r : Run). StandsFor image base (run_of image fuel base (0 ∷ []) asked) r.state)) is stands in
+    let its = subst (λ o. IfOk o (λ (r : Run). RunRepresents image base (run_of image fuel base (0 ∷ []) asked) r.state)) is stands in
     started_ready image fuel base request given run (subst (λ o. IfOk o (λ (r : Run). r.request ≡ asked)) is asks ∙ same)
-    (subst (λ (q : Request). StandsFor image base (run_of image fuel base (0 ∷ []) q) run.state) same its) h
+    (subst (λ (q : Request). RunRepresents image base (run_of image fuel base (0 ∷ []) q) run.state) same its) h

@@ -13,7 +13,7 @@ use Rattle.ob_heap_spec.specs.Marks.{is_among}
 use Rattle.ob_heap_spec.specs.Worlds.{ReadItem, object_item, next_item, handle_item, handles_full_item}
 use Rattle.ob_heap.specs.Contents.{Stored}
 use Rattle.ob_heap.specs.Deltas.{with_handles}
-use Rattle.ob_heap.specs.Differences.{same_truth}
+use Rattle.ob_heap_spec.specs.Operations.{same_truth}
 use Rattle.ob_heap.specs.declared.object.Object.{Object}
 use Rattle.ob_heap.specs.declared.delta.Delta.{Delta}
 use Rattle.ob_exec.specs.declared.runs.Run.{Run}

@@ -14,7 +14,7 @@ use Rattle.ob_lanes_laws.specs.Requests.{has_ended}
 use Rattle.ob_lanes_laws.specs.Turns.{first_start, started, turned}
 use Rattle.ob_lanes_laws.proofs.Keeping.{none_is_some, some_same, set_cases}
 use Rattle.ob_lanes.specs.Starting.{is_held, are_earlier_done, may_start, first_from, opened_busy, begun_with, begun}
-use Rattle.ob_lanes.specs.Standing.{Fits, rules_on, BusyLane, State, IsBusy, IsLane, AreLanes, requests_of, LanesStandFor, NoneHasEnded, OthersGoOn, is_going, MayRun, Ran, LaneTells, HadTurn}
+use Rattle.ob_lanes.specs.Standing.{Fits, rules_on, BusyLane, State, IsBusy, IsLane, AreLanes, requests_of, LanesRepresent, NoneHasEnded, OthersGoOn, is_going, MayRun, Ran, LaneTells, HadTurn}
 use Rattle.ob_lanes.specs.declared.batch.Busy.{Busy}
 use Rattle.ob_lanes.specs.declared.batch.BatchRequest.{BatchRequest}
 
@@ -98,24 +98,24 @@ earlier_same fits image fuel q n k (e ∷ es) l h =
     ap (λ d. nat_eq n k || ((not (bytes_eq e.request.who q.who) || d) && are_earlier_done q.who n (suc k) es)) (sym (told_head k e es (λ i. is_done i l.done) h))
     ∙ ap (λ c. nat_eq n k || ((not (bytes_eq e.request.who q.who) || is_done k l.done) && c)) (earlier_same fits image fuel q n (suc k) es l (told_tail k e es (λ i. is_done i l.done) h))
 
-told_all : (image : Image) (fuel : ℕ) (base : Stored) (entries : List BatchRequest) (lanes : List (Option Busy)) (l : State) → LanesStandFor image fuel base entries lanes l → IsTold 0 entries (λ i. is_done i l.done)
+told_all : (image : Image) (fuel : ℕ) (base : Stored) (entries : List BatchRequest) (lanes : List (Option Busy)) (l : State) → LanesRepresent image fuel base entries lanes l → IsTold 0 entries (λ i. is_done i l.done)
 told_all image fuel base entries lanes l h = λ i e f. ap (λ m. is_done m l.done) (omega arith) ∙ h.done i e f
 
-may_same : (fits : Fits) (image : Image) (fuel : ℕ) (base : Stored) (entries : List BatchRequest) (lanes : List (Option Busy)) (l : State) (n : ℕ) (e : BatchRequest) → LanesStandFor image fuel base entries lanes l → is_done n l.done ≡ e.is_done
+may_same : (fits : Fits) (image : Image) (fuel : ℕ) (base : Stored) (entries : List BatchRequest) (lanes : List (Option Busy)) (l : State) (n : ℕ) (e : BatchRequest) → LanesRepresent image fuel base entries lanes l → is_done n l.done ≡ e.is_done
     → may_start entries lanes n e ≡ schedule.may_start (rules_on fits image fuel) (requests_of entries) n (request_of e.request) l
 may_same fits image fuel base entries lanes l n e h d =
     ap (λ x. not x && (not (is_held n lanes) && are_earlier_done e.request.who n 0 entries)) (sym d)
     ∙ ap (λ x. not (is_done n l.done) && (not x && are_earlier_done e.request.who n 0 entries)) (held_same image fuel base entries n lanes l.lanes h.each)
     ∙ ap (λ x. not (is_done n l.done) && (not (schedule.is_held n l.lanes) && x)) (earlier_same fits image fuel (request_of e.request) n 0 entries l (told_all image fuel base entries lanes l h))
 
-first_by : (fits : Fits) (image : Image) (fuel : ℕ) (base : Stored) (entries : List BatchRequest) (lanes : List (Option Busy)) (l : State) (k : ℕ) (es : List BatchRequest) → LanesStandFor image fuel base entries lanes l → IsTold k es (λ i. is_done i l.done)
+first_by : (fits : Fits) (image : Image) (fuel : ℕ) (base : Stored) (entries : List BatchRequest) (lanes : List (Option Busy)) (l : State) (k : ℕ) (es : List BatchRequest) → LanesRepresent image fuel base entries lanes l → IsTold k es (λ i. is_done i l.done)
     → first_from entries lanes k es ≡ first_start (rules_on fits image fuel) (requests_of entries) l k (requests_of es)
 first_by fits image fuel base entries lanes l k [] h t = refl
 first_by fits image fuel base entries lanes l k (e ∷ es) h t =
     ap (λ b. if b then Some k else first_from entries lanes (suc k) es) (may_same fits image fuel base entries lanes l k e h (told_head k e es (λ i. is_done i l.done) t))
     ∙ ap (λ o. if schedule.may_start (rules_on fits image fuel) (requests_of entries) k (request_of e.request) l then Some k else o) (first_by fits image fuel base entries lanes l (suc k) es h (told_tail k e es (λ i. is_done i l.done) t))
 
-pub first_same : (fits : Fits) (image : Image) (fuel : ℕ) (base : Stored) (entries : List BatchRequest) (lanes : List (Option Busy)) (l : State) → LanesStandFor image fuel base entries lanes l
+pub first_same : (fits : Fits) (image : Image) (fuel : ℕ) (base : Stored) (entries : List BatchRequest) (lanes : List (Option Busy)) (l : State) → LanesRepresent image fuel base entries lanes l
     → first_from entries lanes 0 entries ≡ first_start (rules_on fits image fuel) (requests_of entries) l 0 (requests_of entries)
 first_same fits image fuel base entries lanes l h = first_by fits image fuel base entries lanes l 0 entries h (told_all image fuel base entries lanes l h)
 
@@ -153,38 +153,38 @@ opened_is image fuel base entries n q f fits =
     record { number = refl; entry = e.0; entry_is = e.1; request = e.2; run = ap plain.opened e.2; holds = tt }
 
 -- another lane in the place of one
-with_pair : (image : Image) (fuel : ℕ) (base : Stored) (entries : List BatchRequest) (lanes : List (Option Busy)) (l : State) (k : ℕ) (b : Option Busy) (s : Option BusyLane) → LanesStandFor image fuel base entries lanes l → IsLane image fuel base entries b s
-    → LanesStandFor image fuel base entries (slice_set lanes k b) (with_lane k s l)
+with_pair : (image : Image) (fuel : ℕ) (base : Stored) (entries : List BatchRequest) (lanes : List (Option Busy)) (l : State) (k : ℕ) (b : Option Busy) (s : Option BusyLane) → LanesRepresent image fuel base entries lanes l → IsLane image fuel base entries b s
+    → LanesRepresent image fuel base entries (slice_set lanes k b) (with_lane k s l)
 with_pair image fuel base entries lanes l k b s h g = record { store = h.store; done = h.done; each = pair_set image fuel base entries lanes l.lanes k b s h.each g }
 
-begin_at : (fits : Fits) (image : Image) (fuel : ℕ) (base : Stored) (entries : List BatchRequest) (lanes : List (Option Busy)) (l : State) (k n : ℕ) (b : Option Busy) (s : Option BusyLane) → LanesStandFor image fuel base entries lanes l
+begin_at : (fits : Fits) (image : Image) (fuel : ℕ) (base : Stored) (entries : List BatchRequest) (lanes : List (Option Busy)) (l : State) (k n : ℕ) (b : Option Busy) (s : Option BusyLane) → LanesRepresent image fuel base entries lanes l
     → (st : Startable fits image fuel (requests_of entries) l n) → IsLane image fuel base entries b s
-    → LanesStandFor image fuel base entries (begun_with k (Some n) (Some b) lanes) (starts (rules_on fits image fuel) (requests_of entries) k n (Some st.request) (Some s) l)
+    → LanesRepresent image fuel base entries (begun_with k (Some n) (Some b) lanes) (starts (rules_on fits image fuel) (requests_of entries) k n (Some st.request) (Some s) l)
 begin_at fits image fuel base entries lanes l k n None None h st g =
-    subst (λ m. LanesStandFor image fuel base entries (slice_set lanes k (Some (opened_busy n))) (if m then with_lane k (Some (schedule.opened (rules_on fits image fuel) n st.request)) l else l)) (sym st.may)
+    subst (λ m. LanesRepresent image fuel base entries (slice_set lanes k (Some (opened_busy n))) (if m then with_lane k (Some (schedule.opened (rules_on fits image fuel) n st.request)) l else l)) (sym st.may)
     (with_pair image fuel base entries lanes l k (Some (opened_busy n)) (Some (schedule.opened (rules_on fits image fuel) n st.request)) h (opened_is image fuel base entries n st.request st.is fits))
 begin_at fits image fuel base entries lanes l k n None (Some s) h st g = absurd g
 begin_at fits image fuel base entries lanes l k n (Some b) None h st g = absurd g
 begin_at fits image fuel base entries lanes l k n (Some b) (Some s) h st g = h
 
-begin_by : (fits : Fits) (image : Image) (fuel : ℕ) (base : Stored) (entries : List BatchRequest) (lanes : List (Option Busy)) (l : State) (k n : ℕ) → LanesStandFor image fuel base entries lanes l
+begin_by : (fits : Fits) (image : Image) (fuel : ℕ) (base : Stored) (entries : List BatchRequest) (lanes : List (Option Busy)) (l : State) (k n : ℕ) → LanesRepresent image fuel base entries lanes l
     → (st : Startable fits image fuel (requests_of entries) l n) → Pair image fuel base entries (slice_get lanes k) (slice_get l.lanes k)
-    → LanesStandFor image fuel base entries (begun_with k (Some n) (slice_get lanes k) lanes) (starts (rules_on fits image fuel) (requests_of entries) k n (Some st.request) (slice_get l.lanes k) l)
+    → LanesRepresent image fuel base entries (begun_with k (Some n) (slice_get lanes k) lanes) (starts (rules_on fits image fuel) (requests_of entries) k n (Some st.request) (slice_get l.lanes k) l)
 begin_by fits image fuel base entries lanes l k n h st (beyond e f) =
-    subst (λ x. LanesStandFor image fuel base entries (begun_with k (Some n) x lanes) (starts (rules_on fits image fuel) (requests_of entries) k n (Some st.request) (slice_get l.lanes k) l)) (sym e)
-    (subst (λ y. LanesStandFor image fuel base entries lanes (starts (rules_on fits image fuel) (requests_of entries) k n (Some st.request) y l)) (sym f) h)
+    subst (λ x. LanesRepresent image fuel base entries (begun_with k (Some n) x lanes) (starts (rules_on fits image fuel) (requests_of entries) k n (Some st.request) (slice_get l.lanes k) l)) (sym e)
+    (subst (λ y. LanesRepresent image fuel base entries lanes (starts (rules_on fits image fuel) (requests_of entries) k n (Some st.request) y l)) (sym f) h)
 begin_by fits image fuel base entries lanes l k n h st (within b s e f g) =
-    subst (λ x. LanesStandFor image fuel base entries (begun_with k (Some n) x lanes) (starts (rules_on fits image fuel) (requests_of entries) k n (Some st.request) (slice_get l.lanes k) l)) (sym e)
-    (subst (λ y. LanesStandFor image fuel base entries (begun_with k (Some n) (Some b) lanes) (starts (rules_on fits image fuel) (requests_of entries) k n (Some st.request) y l)) (sym f)
+    subst (λ x. LanesRepresent image fuel base entries (begun_with k (Some n) x lanes) (starts (rules_on fits image fuel) (requests_of entries) k n (Some st.request) (slice_get l.lanes k) l)) (sym e)
+    (subst (λ y. LanesRepresent image fuel base entries (begun_with k (Some n) (Some b) lanes) (starts (rules_on fits image fuel) (requests_of entries) k n (Some st.request) y l)) (sym f)
     (begin_at fits image fuel base entries lanes l k n b s h st g))
 
-begin_with : (fits : Fits) (image : Image) (fuel : ℕ) (base : Stored) (entries : List BatchRequest) (lanes : List (Option Busy)) (l : State) (k : ℕ) (o : Option ℕ) → LanesStandFor image fuel base entries lanes l
+begin_with : (fits : Fits) (image : Image) (fuel : ℕ) (base : Stored) (entries : List BatchRequest) (lanes : List (Option Busy)) (l : State) (k : ℕ) (o : Option ℕ) → LanesRepresent image fuel base entries lanes l
     → first_start (rules_on fits image fuel) (requests_of entries) l 0 (requests_of entries) ≡ o
-    → LanesStandFor image fuel base entries (begun_with k o (slice_get lanes k) lanes) (started (rules_on fits image fuel) (requests_of entries) k o l)
+    → LanesRepresent image fuel base entries (begun_with k o (slice_get lanes k) lanes) (started (rules_on fits image fuel) (requests_of entries) k o l)
 begin_with fits image fuel base entries lanes l k None h e = h
 begin_with fits image fuel base entries lanes l k (Some n) h e =
     let st = startable fits image fuel (requests_of entries) l 0 n (requests_of entries) (λ i. ap (slice_get (requests_of entries)) (omega arith)) e in
-    subst (λ q. LanesStandFor image fuel base entries (begun_with k (Some n) (slice_get lanes k) lanes) (starts (rules_on fits image fuel) (requests_of entries) k n q (slice_get l.lanes k) l)) (sym st.is)
+    subst (λ q. LanesRepresent image fuel base entries (begun_with k (Some n) (slice_get lanes k) lanes) (starts (rules_on fits image fuel) (requests_of entries) k n q (slice_get l.lanes k) l)) (sym st.is)
     (begin_by fits image fuel base entries lanes l k n h st (pair_at image fuel base entries lanes l.lanes k h.each))
 
 -- the schedule once an idle lane has started a request
@@ -192,10 +192,10 @@ abbrev pub begun_state : Fits → Image → ℕ → List BatchRequest → ℕ �
 begun_state fits image fuel entries k l =
     started (rules_on fits image fuel) (requests_of entries) k (first_start (rules_on fits image fuel) (requests_of entries) l 0 (requests_of entries)) l
 
-pub begin_stands : (fits : Fits) (image : Image) (fuel : ℕ) (base : Stored) (entries : List BatchRequest) (lanes : List (Option Busy)) (l : State) (k : ℕ) → LanesStandFor image fuel base entries lanes l
-    → LanesStandFor image fuel base entries (begun entries k lanes) (begun_state fits image fuel entries k l)
+pub begin_stands : (fits : Fits) (image : Image) (fuel : ℕ) (base : Stored) (entries : List BatchRequest) (lanes : List (Option Busy)) (l : State) (k : ℕ) → LanesRepresent image fuel base entries lanes l
+    → LanesRepresent image fuel base entries (begun entries k lanes) (begun_state fits image fuel entries k l)
 begin_stands fits image fuel base entries lanes l k h =
-    subst (λ o. LanesStandFor image fuel base entries (begun_with k o (slice_get lanes k) lanes) (begun_state fits image fuel entries k l)) (sym (first_same fits image fuel base entries lanes l h))
+    subst (λ o. LanesRepresent image fuel base entries (begun_with k o (slice_get lanes k) lanes) (begun_state fits image fuel entries k l)) (sym (first_same fits image fuel base entries lanes l h))
     (begin_with fits image fuel base entries lanes l k (first_start (rules_on fits image fuel) (requests_of entries) l 0 (requests_of entries)) h refl)
 
 -- No run has ended then.
@@ -228,11 +228,11 @@ begin_going fits image fuel entries l k h = by (first_start (rules_on fits image
 
 -- what a turn has led to, by the schedule with these rules
 pub record HasTurned (fits : Fits) (image : Image) (fuel : ℕ) (base : Stored) (entries : List BatchRequest) (k : ℕ) (l : State) (lanes : List (Option Busy)) (outcome : SliceOutcome) : Type 0 where
-  pub state : LanesStandFor image fuel base entries lanes l
+  pub state : LanesRepresent image fuel base entries lanes l
   pub others : OthersGoOn k l
   pub tells : LaneTells base entries (slice_get l.lanes k) outcome
 
-idle_ran : (fits : Fits) (image : Image) (fuel : ℕ) (base : Stored) (entries : List BatchRequest) (lanes : List (Option Busy)) (l : State) (units k : ℕ) (b : Option Busy) (outcome : SliceOutcome) → LanesStandFor image fuel base entries lanes l
+idle_ran : (fits : Fits) (image : Image) (fuel : ℕ) (base : Stored) (entries : List BatchRequest) (lanes : List (Option Busy)) (l : State) (units k : ℕ) (b : Option Busy) (outcome : SliceOutcome) → LanesRepresent image fuel base entries lanes l
     → NoneHasEnded l → slice_get l.lanes k ≡ Some None → Ran image fuel base entries units None b outcome → HasTurned fits image fuel base entries k l (slice_set lanes k b) outcome
 idle_ran fits image fuel base entries lanes l units k b outcome h g e r = record {
   state = record {
@@ -251,7 +251,7 @@ others_with l k s g = λ j d f n. by j d (set_cases l.lanes k j s (Some d) f) n
     by j d (inl f) n = absurd (n f.0)
     by j d (inr f) n = g j d f
 
-busy_ran : (fits : Fits) (image : Image) (fuel : ℕ) (base : Stored) (entries : List BatchRequest) (lanes : List (Option Busy)) (l : State) (units k : ℕ) (s : BusyLane) (b : Option Busy) (outcome : SliceOutcome) → LanesStandFor image fuel base entries lanes l
+busy_ran : (fits : Fits) (image : Image) (fuel : ℕ) (base : Stored) (entries : List BatchRequest) (lanes : List (Option Busy)) (l : State) (units k : ℕ) (s : BusyLane) (b : Option Busy) (outcome : SliceOutcome) → LanesRepresent image fuel base entries lanes l
     → NoneHasEnded l → slice_get l.lanes k ≡ Some (Some s) → Ran image fuel base entries units (Some s) b outcome
     → HasTurned fits image fuel base entries k (with_lane k (Some (sliced (rules_on fits image fuel) l.store units s)) l) (slice_set lanes k b) outcome
 busy_ran fits image fuel base entries lanes l units k s b outcome h g e r =
@@ -262,7 +262,7 @@ busy_ran fits image fuel base entries lanes l units k s b outcome h g e r =
       tells = subst (λ y. LaneTells base entries y outcome) (ap (λ y. Some y) is ∙ sym (set_get l.lanes k (Some (sliced (rules_on fits image fuel) l.store units s)) (Some s) e)) r.tells;
     }
 
-ran_by : (fits : Fits) (image : Image) (fuel : ℕ) (base : Stored) (entries : List BatchRequest) (lanes : List (Option Busy)) (l : State) (units k : ℕ) (s : Option BusyLane) (b : Option Busy) (outcome : SliceOutcome) → LanesStandFor image fuel base entries lanes l
+ran_by : (fits : Fits) (image : Image) (fuel : ℕ) (base : Stored) (entries : List BatchRequest) (lanes : List (Option Busy)) (l : State) (units k : ℕ) (s : Option BusyLane) (b : Option Busy) (outcome : SliceOutcome) → LanesRepresent image fuel base entries lanes l
     → NoneHasEnded l → slice_get l.lanes k ≡ Some s → Ran image fuel base entries units s b outcome
     → HasTurned fits image fuel base entries k (runs (rules_on fits image fuel) k units (Some s) l) (slice_set lanes k b) outcome
 ran_by fits image fuel base entries lanes l units k None b outcome h g e r = idle_ran fits image fuel base entries lanes l units k b outcome h g e r
@@ -270,7 +270,7 @@ ran_by fits image fuel base entries lanes l units k (Some s) b outcome h g e r =
     subst (λ x. HasTurned fits image fuel base entries k (if x then l else with_lane k (Some (sliced (rules_on fits image fuel) l.store units s)) l) (slice_set lanes k b) outcome) (sym (g k s e))
     (busy_ran fits image fuel base entries lanes l units k s b outcome h g e r)
 
-ran_stands : (fits : Fits) (image : Image) (fuel : ℕ) (base : Stored) (entries : List BatchRequest) (lanes : List (Option Busy)) (l : State) (units k : ℕ) (s : Option BusyLane) (b : Option Busy) (outcome : SliceOutcome) → LanesStandFor image fuel base entries lanes l
+ran_stands : (fits : Fits) (image : Image) (fuel : ℕ) (base : Stored) (entries : List BatchRequest) (lanes : List (Option Busy)) (l : State) (units k : ℕ) (s : Option BusyLane) (b : Option Busy) (outcome : SliceOutcome) → LanesRepresent image fuel base entries lanes l
     → NoneHasEnded l → slice_get l.lanes k ≡ Some s → Ran image fuel base entries units s b outcome
     → HasTurned fits image fuel base entries k (step (rules_on fits image fuel) (requests_of entries) l (slice k units)) (slice_set lanes k b) outcome
 ran_stands fits image fuel base entries lanes l units k s b outcome h g e r =
@@ -307,7 +307,7 @@ pub record Both (image : Image) (fuel : ℕ) (base : Stored) (entries : List Bat
   pub lane_is : slice_get l.lanes k ≡ Some lane
   pub may : MayRun image fuel base entries (slice_index_or lanes k None) lane
 
-pub both_at : (image : Image) (fuel : ℕ) (base : Stored) (entries : List BatchRequest) (lanes : List (Option Busy)) (l : State) (k : ℕ) → LanesStandFor image fuel base entries lanes l → NoneHasEnded l → k < length lanes
+pub both_at : (image : Image) (fuel : ℕ) (base : Stored) (entries : List BatchRequest) (lanes : List (Option Busy)) (l : State) (k : ℕ) → LanesRepresent image fuel base entries lanes l → NoneHasEnded l → k < length lanes
     → Both image fuel base entries lanes l k
 both_at image fuel base entries lanes l k h g w = by (pair_at image fuel base entries lanes l.lanes k h.each)
   where
@@ -322,7 +322,7 @@ both_at image fuel base entries lanes l k h g w = by (pair_at image fuel base en
       };
     }
 
-pub had_turn : (image : Image) (fuel : ℕ) (base : Stored) (entries : List BatchRequest) (units k : ℕ) (l : State) (old : List (Option Busy)) (b : Option Busy) (outcome : SliceOutcome) → LanesStandFor image fuel base entries old l → NoneHasEnded l → k < length old
+pub had_turn : (image : Image) (fuel : ℕ) (base : Stored) (entries : List BatchRequest) (units k : ℕ) (l : State) (old : List (Option Busy)) (b : Option Busy) (outcome : SliceOutcome) → LanesRepresent image fuel base entries old l → NoneHasEnded l → k < length old
     → ((s : Option BusyLane) → MayRun image fuel base entries (slice_index_or (begun entries k old) k None) s → Ran image fuel base entries units s b outcome)
     → HadTurn image fuel base entries units k l (slice_set (begun entries k old) k b) outcome
 had_turn image fuel base entries units k l old b outcome h g w run = record { state = λ fits. (by fits).state; others = λ fits. (by fits).others; tells = λ fits. (by fits).tells }

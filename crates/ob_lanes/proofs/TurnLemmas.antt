@@ -11,7 +11,7 @@ use Rattle.ob_exec.specs.declared.runs.SliceOutcome.{SliceOutcome}
 use Rattle.ob_exec.specs.declared.runs.SliceOutcome.TheVariants as slice_outcome
 use Rattle.ob_lanes_laws.specs.Requests.{has_ended}
 use Rattle.ob_lanes_laws.proofs.Keeping.{none_is_some, some_same, not_true}
-use Rattle.ob_lanes.specs.Standing.{Fits, BusyLane, State, given_run, Holds, GoesOn, Tells, Leads, AreInLimits, requests_of, LanesStandFor, NoneHasEnded, MayRun, Ran, HadTurn}
+use Rattle.ob_lanes.specs.Standing.{Fits, BusyLane, State, given_run, Holds, GoesOn, Tells, Leads, AreInLimits, requests_of, LanesRepresent, NoneHasEnded, MayRun, Ran, HadTurn}
 use Rattle.ob_lanes.specs.declared.batch.Busy.{Busy}
 use Rattle.ob_lanes.specs.declared.batch.BatchRequest.{BatchRequest}
 use Rattle.ob_lanes.proofs.SliceLemmas.{one_more}
@@ -76,7 +76,7 @@ found_there [] n x d e = absurd (none_is_some e)
 found_there (y ∷ ys) zero x d e = some_same y x e
 found_there (y ∷ ys) (suc n) x d e = found_there ys n x d e
 
--- what a list has within its length, whatever stands for the rest
+-- what a list has within its length, whatever comes behind
 pub index_any : {A : Type 0} (xs : List A) (k : ℕ) (d e : A) → k < length xs → slice_index_or xs k d ≡ slice_index_or xs k e
 index_any [] k d e h = absurd (omega (arith, h))
 index_any (x ∷ xs) zero d e h = refl
@@ -87,7 +87,7 @@ now_within entries k old now same w = subst (λ (ls : List (Option Busy)). k < l
 
 -- the turn of a lane, by what its run has answered
 pub lane_turned : {E : Type 0} (image : Image) (fuel : ℕ) (base : Stored) (entries : List BatchRequest) (units k : ℕ) (l : State) (old now : List (Option Busy)) (d b : Option Busy) (result : Result SliceOutcome E) → now ≡ begun entries k old
-    → LanesStandFor image fuel base entries old l → NoneHasEnded l → k < length old
+    → LanesRepresent image fuel base entries old l → NoneHasEnded l → k < length old
     → ((s : Option BusyLane) → MayRun image fuel base entries (slice_index_or now k d) s → IfOk result (Ran image fuel base entries units s b))
     → IfOk result (HadTurn image fuel base entries units k l (slice_set now k b))
 lane_turned image fuel base entries units k l old now d b (Ok outcome) same h g w run =
@@ -97,7 +97,7 @@ lane_turned image fuel base entries units k l old now d b (Ok outcome) same h g 
 lane_turned image fuel base entries units k l old now d b (Err error) same h g w run = tt
 
 -- a lane may run once it has begun
-pub begun_may : (image : Image) (fuel : ℕ) (base : Stored) (entries : List BatchRequest) (k : ℕ) (l : State) (old now : List (Option Busy)) (d : Option Busy) → now ≡ begun entries k old → LanesStandFor image fuel base entries old l → NoneHasEnded l → k < length old
+pub begun_may : (image : Image) (fuel : ℕ) (base : Stored) (entries : List BatchRequest) (k : ℕ) (l : State) (old now : List (Option Busy)) (d : Option Busy) → now ≡ begun entries k old → LanesRepresent image fuel base entries old l → NoneHasEnded l → k < length old
     → (s : Option BusyLane) × MayRun image fuel base entries (slice_index_or now k d) s
 begun_may image fuel base entries k l old now d same h g w =
     let fits : Fits = λ before after. true in

@@ -19,7 +19,7 @@ use Rattle.ob_request_run_laws.specs.Slices.{slice}
 use Rattle.ob_wire.specs.Meanings.{request_of}
 use Rattle.ob_wire.specs.declared.request.Request as wire
 use Rattle.ob_exec_handles.specs.Coming.{ComesTo, LeadsTo, IsInLimits}
-use Rattle.ob_exec.specs.Pausing.{StandsFor, run_of}
+use Rattle.ob_exec.specs.Pausing.{RunRepresents, run_of}
 use Rattle.ob_exec.specs.declared.runs.Run.{Run}
 use Rattle.ob_exec.specs.declared.runs.SliceOutcome.{SliceOutcome}
 use Rattle.ob_exec.specs.declared.runs.SliceOutcome.TheVariants as slice_outcome
@@ -49,7 +49,7 @@ given_run image fuel base request given = run_of image fuel base (in_order given
 -- The code's run is as far as a plain one, on what a store holds: it is paused where that is, or it has ended and its answer was taken;
 -- and it has read and taken as much.
 abbrev pub IsAsFar : Image → Stored → plain.Run → Run → Type 0
-IsAsFar image base (paused q reads p h) run = StandsFor image base (paused q reads p h) run.state
+IsAsFar image base (paused q reads p h) run = RunRepresents image base (paused q reads p h) run.state
 IsAsFar image base (answered a) run = ReadSame a.reads run.state.reads × (run.state.taken ≡ a.taken)
 IsAsFar image base r run = ⊥
 
@@ -71,7 +71,7 @@ pub record GoesOn (image : Image) (fuel : ℕ) (base : Stored) (request : wire.R
 pub record IsReady (image : Image) (fuel : ℕ) (base : Stored) (request : wire.Request) (given : List ℕ) (run : Run) : Type 0 where
   pub request_is : run.request ≡ request
   pub slices_so_far : List ℕ
-  pub stands : StandsFor image base (run_of image fuel base slices_so_far request) run.state
+  pub stands : RunRepresents image base (run_of image fuel base slices_so_far request) run.state
   pub same : (units : ℕ) → slice image fuel (content_of base) units (run_of image fuel base slices_so_far request) ≡ given_run image fuel base request (units ∷ given)
 
 -- the same of what a lane holds: there is one
@@ -159,16 +159,16 @@ requests_of entries = map (λ (e : BatchRequest). request_of e.request) entries
 abbrev pub requests_kept : Lanes → List wire.Request
 requests_kept lanes = map (λ (e : BatchRequest). e.request) lanes.entries.items
 
--- Lanes, and what is kept of the batch, stand for a state of the schedule on what a store holds.
-pub record LanesStandFor (image : Image) (fuel : ℕ) (base : Stored) (entries : List BatchRequest) (lanes : List (Option Busy)) (l : State) : Type 0 where
+-- Lanes, and what is kept of the batch, represent a state of the schedule on what a store holds.
+pub record LanesRepresent (image : Image) (fuel : ℕ) (base : Stored) (entries : List BatchRequest) (lanes : List (Option Busy)) (l : State) : Type 0 where
   pub store : l.store ≡ content_of base
   pub done : (n : ℕ) (e : BatchRequest) → slice_get entries n ≡ Some e → is_done n l.done ≡ e.is_done
   pub each : AreLanes image fuel base entries lanes l.lanes
 
--- The code's lanes stand for a state of the schedule of a batch, on what a store holds.
-pub record StandFor (image : Image) (fuel : ℕ) (batch : List Request) (base : Stored) (lanes : Lanes) (l : State) : Type 0 where
+-- The code's lanes represent a state of the schedule of a batch, on what a store holds.
+pub record LanesRepresentBatch (image : Image) (fuel : ℕ) (batch : List Request) (base : Stored) (lanes : Lanes) (l : State) : Type 0 where
   pub requests : batch ≡ requests_of lanes.entries.items
-  pub state : LanesStandFor image fuel base lanes.entries.items lanes.lanes.items l
+  pub state : LanesRepresent image fuel base lanes.entries.items lanes.lanes.items l
   pub next : lanes.next < length lanes.lanes.items
   pub slice : 0 < lanes.slice
 
@@ -228,7 +228,7 @@ pub record Ran (image : Image) (fuel : ℕ) (base : Stored) (entries : List Batc
 
 -- a lane has had its turn, up to its commit, and its run tells so
 pub record HadTurn (image : Image) (fuel : ℕ) (base : Stored) (entries : List BatchRequest) (units k : ℕ) (l : State) (lanes : List (Option Busy)) (outcome : SliceOutcome) : Type 0 where
-  pub state : (fits : Fits) → LanesStandFor image fuel base entries lanes (turned (rules_on fits image fuel) (requests_of entries) units k l)
+  pub state : (fits : Fits) → LanesRepresent image fuel base entries lanes (turned (rules_on fits image fuel) (requests_of entries) units k l)
   pub others : (fits : Fits) → OthersGoOn k (turned (rules_on fits image fuel) (requests_of entries) units k l)
   pub tells : (fits : Fits) → LaneTells base entries (slice_get (turned (rules_on fits image fuel) (requests_of entries) units k l).lanes k) outcome
 
@@ -249,14 +249,14 @@ TurnComesTo lanes slice_outcome.Paused next turn =
 
 -- A turn has made its events, up to the commit, and answers so.
 pub record Turned (image : Image) (fuel : ℕ) (batch : List Request) (base : Stored) (old : Lanes) (l : State) (new : Lanes) (turn : Turn) : Type 0 where
-  pub stands : (fits : Fits) → StandFor image fuel batch base new (turned (rules_on fits image fuel) batch old.slice old.next l)
+  pub stands : (fits : Fits) → LanesRepresentBatch image fuel batch base new (turned (rules_on fits image fuel) batch old.slice old.next l)
   pub slice : new.slice ≡ old.slice
   pub count : length new.lanes.items ≡ length old.lanes.items
   pub answers : (fits : Fits) → Answers base batch old.entries.items old.next (turned (rules_on fits image fuel) batch old.slice old.next l) turn new.next
 
--- A turn can be made: the lanes stand for a state in which no run waits for its commit.
+-- A turn can be made: the lanes represent a state in which no run waits for its commit.
 pub record CanTurn (image : Image) (fuel : ℕ) (batch : List Request) (base : Stored) (lanes : Lanes) (l : State) : Type 0 where
-  pub stands : StandFor image fuel batch base lanes l
+  pub stands : LanesRepresentBatch image fuel batch base lanes l
   pub going : NoneHasEnded l
   pub limits : AreInLimits image fuel base batch
 
@@ -277,15 +277,15 @@ Lends image fuel base entries lane lent = lent ≡ None
 
 -- The lanes wait for the commit of the lane whose turn it was: its run has ended, and no other one has.
 pub record Waits (image : Image) (fuel : ℕ) (batch : List Request) (base : Stored) (lanes : Lanes) (l : State) : Type 0 where
-  pub stands : StandFor image fuel batch base lanes l
+  pub stands : LanesRepresentBatch image fuel batch base lanes l
   pub lane : BusyLane
   pub lane_is : slice_get l.lanes lanes.next ≡ Some (Some lane)
   pub ended : EndsAlone lanes.next l
 
 -- From a store at rest, and for code by which none goes wrong or leaves one that isn't: if the delta leads to what the schedule's store
--- holds after the commit, and has just what differs, then the lanes stand for the schedule after the commit.
+-- holds after the commit, and has just what differs, then the lanes represent the schedule after the commit.
 abbrev pub Commits : Image → ℕ → List Request → Stored → Delta → Stored → ℕ → State → Lanes → Type 0
 Commits image fuel batch before delta after k l new =
     (fits : Fits) → LeadsAheadOrToUnit image → KeepsStores image → OfEach HasLabels batch → IsStoreAtRest (table_of_image image) (content_of before)
     → LeadsTo before delta (content_of after) → (committed_by fits image fuel batch k l).store ≡ content_of after
-    → StandFor image fuel batch after new (committed_by fits image fuel batch k l) × NoneHasEnded (committed_by fits image fuel batch k l)
+    → LanesRepresentBatch image fuel batch after new (committed_by fits image fuel batch k l) × NoneHasEnded (committed_by fits image fuel batch k l)

@@ -13,7 +13,7 @@ ghost use Rattle.ob_wire.specs.Requests.{most_requests};
 ghost use Rattle.ob_exec_entries.specs.Naming.{IsNamesOf};
 ghost use Rattle.ob_lanes_laws.specs.Schedule.{idle};
 ghost use Rattle.ob_lanes_laws.specs.Turns.{next_lane};
-ghost use Rattle.ob_lanes.specs.Standing.{State, StandFor, CanTurn, Turned, TurnComesTo, Waits, Commits, Lends, AreIdle, waiting, requests_kept, run_of_lane, run_at};
+ghost use Rattle.ob_lanes.specs.Standing.{State, LanesRepresentBatch, CanTurn, Turned, TurnComesTo, Waits, Commits, Lends, AreIdle, waiting, requests_kept, run_of_lane, run_at};
 
 use crate::batch::{BatchRequest, Busy};
 use crate::lane_run::LaneRun;
@@ -104,7 +104,7 @@ impl Lanes {
         requires some { 0 < lanes }
         requires few { lanes ≤ 8 }
         requires slice { 0 < slice }
-        ensures stand { IfOk result (λ l. (image : Code) (fuel : ℕ) (base : Stored) → StandFor image fuel [] base l (idle (content_of base) lanes)) }
+        ensures stand { IfOk result (λ l. (image : Code) (fuel : ℕ) (base : Stored) → LanesRepresentBatch image fuel [] base l (idle (content_of base) lanes)) }
         ensures slice { IfOk result (λ l. l.slice ≡ slice) }
         ensures count { IfOk result (λ l. length l.lanes.items ≡ lanes) }
     {
@@ -125,8 +125,8 @@ impl Lanes {
     pub fn begin_batch(&mut self, alloc: Global, batch: Items<Request>) -> Result<(), Memory>
         requires some { 0 < length batch }
         requires few { length batch ≤ most_requests }
-        requires idle { (image : Code) × (fuel : ℕ) × (before : List Asked) × (base : Stored) × (l : State) × StandFor image fuel before base self.old l × AreIdle l }
-        ensures stand { OnOk result ((image : Code) (fuel : ℕ) (base : Stored) → StandFor image fuel (map request_of batch) base self.new (idle (content_of base) (length self.old.lanes.items))) }
+        requires idle { (image : Code) × (fuel : ℕ) × (before : List Asked) × (base : Stored) × (l : State) × LanesRepresentBatch image fuel before base self.old l × AreIdle l }
+        ensures stand { OnOk result ((image : Code) (fuel : ℕ) (base : Stored) → LanesRepresentBatch image fuel (map request_of batch) base self.new (idle (content_of base) (length self.old.lanes.items))) }
         ensures requests { OnOk result (requests_kept self.new ≡ batch) }
         ensures next { OnOk result (self.new.next ≡ 0) }
         ensures slice { OnOk result (self.new.slice ≡ self.old.slice) }
@@ -223,7 +223,7 @@ impl Lanes {
     /// of these, or where its request wasn't sliced since it was opened.
     pub fn lane(&self, lane: u8) -> Option<&Run>
         ensures is { option_copied result ≡ run_at self.now.lanes.items lane }
-        ensures lends { (image : Code) (fuel : ℕ) (batch : List Asked) (base : Stored) (l : State) → StandFor image fuel batch base self.now l
+        ensures lends { (image : Code) (fuel : ℕ) (batch : List Asked) (base : Stored) (l : State) → LanesRepresentBatch image fuel batch base self.now l
             → Lends image fuel base self.now.entries.items (slice_get l.lanes lane) (option_copied result) }
     {
         match at(self.lanes.get(), lane as usize) {

@@ -7,7 +7,7 @@ ghost use Rattle.ob_heap.specs.Deltas.{IsDelta};
 ghost use Rattle.ob_owners.specs.Spots.{owner_place};
 ghost use Rattle.ob_exec_entries.specs.Naming.{IsNamesOf};
 ghost use Rattle.ob_lanes.specs.Committing.{answered_in, lane_at, lanes_after};
-ghost use Rattle.ob_lanes.specs.Standing.{State, AreInLimits, LanesStandFor, NoneHasEnded, HadTurn, requests_of};
+ghost use Rattle.ob_lanes.specs.Standing.{State, AreInLimits, LanesRepresent, NoneHasEnded, HadTurn, requests_of};
 
 use crate::batch::{BatchRequest, Busy};
 use crate::readers::Readers;
@@ -101,8 +101,8 @@ impl Listed {
         requires index { (n : ℕ) → I.owner index.now n ≡ owner_place (table_of_image code.now) (content_of content.now) n }
         requires right { AreInLimits code.now fuel content.now (requests_of entries.now) }
         requires lane { lane < length self.old.items }
-        requires those { (l : State) × LanesStandFor code.now fuel content.now entries.now self.old.items l × NoneHasEnded l }
-        ensures had { (l : State) → LanesStandFor code.now fuel content.now entries.now self.old.items l → NoneHasEnded l
+        requires those { (l : State) × LanesRepresent code.now fuel content.now entries.now self.old.items l × NoneHasEnded l }
+        ensures had { (l : State) → LanesRepresent code.now fuel content.now entries.now self.old.items l → NoneHasEnded l
             → IfOk result (HadTurn code.now fuel content.now entries.now units lane l self.new.items) }
         ensures idle { OnErr result (lane_at self.new.items lane ≡ None) }
         ensures stay { self.new.items ≡ slice_set self.old.items lane (lane_at self.new.items lane) }

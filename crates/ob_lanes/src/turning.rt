@@ -8,7 +8,7 @@ ghost use Rattle.ob_heap.specs.Deltas.{IsDelta};
 ghost use Rattle.ob_base.specs.Limits.{most_handles};
 ghost use Rattle.ob_lanes.specs.Committing.{answered_in, lane_at, lanes_after};
 ghost use Rattle.ob_lanes.specs.Readers.{items_read, objects_of, objects_read};
-ghost use Rattle.ob_lanes.specs.Standing.{State, BusyLane, AreInLimits, LanesStandFor, NoneHasEnded, HadTurn, MayRun, Ran, requests_of};
+ghost use Rattle.ob_lanes.specs.Standing.{State, BusyLane, AreInLimits, LanesRepresent, NoneHasEnded, HadTurn, MayRun, Ran, requests_of};
 
 use crate::batch::{BatchRequest, Busy};
 use crate::lane_run::LaneRun;
@@ -102,8 +102,8 @@ fn turn_lane<I: Index>(
     requires index { (n : ℕ) → I.owner index.now n ≡ owner_place (table_of_image code.now) (content_of content.now) n }
     requires right { AreInLimits code.now fuel content.now (requests_of entries.now) }
     requires lane { lane < length lanes.old }
-    requires those { (l : State) × LanesStandFor code.now fuel content.now entries.now lanes.old l × NoneHasEnded l }
-    ensures had { (l : State) → LanesStandFor code.now fuel content.now entries.now lanes.old l → NoneHasEnded l
+    requires those { (l : State) × LanesRepresent code.now fuel content.now entries.now lanes.old l × NoneHasEnded l }
+    ensures had { (l : State) → LanesRepresent code.now fuel content.now entries.now lanes.old l → NoneHasEnded l
         → IfOk result (HadTurn code.now fuel content.now entries.now units lane l lanes.new) }
     ensures stay { lanes.new ≡ slice_set lanes.old lane (lane_at lanes.new lane) }
 {
@@ -169,9 +169,9 @@ fn turn_entered<I: Index>(
     requires index { (n : ℕ) → I.owner index.now n ≡ owner_place (table_of_image code.now) (content_of content.now) n }
     requires right { AreInLimits code.now fuel content.now (requests_of entries.now) }
     requires lane { lane < length lanes.old }
-    requires those { (l : State) × LanesStandFor code.now fuel content.now entries.now lanes.old l × NoneHasEnded l }
+    requires those { (l : State) × LanesRepresent code.now fuel content.now entries.now lanes.old l × NoneHasEnded l }
     requires entered { readers.old ≡ map objects_read lanes.old }
-    ensures had { (l : State) → LanesStandFor code.now fuel content.now entries.now lanes.old l → NoneHasEnded l
+    ensures had { (l : State) → LanesRepresent code.now fuel content.now entries.now lanes.old l → NoneHasEnded l
         → IfOk result (HadTurn code.now fuel content.now entries.now units lane l lanes.new) }
     ensures entered { OnOk result (readers.new ≡ map objects_read lanes.new) }
     ensures stay { lanes.new ≡ slice_set lanes.old lane (lane_at lanes.new lane) }
@@ -206,9 +206,9 @@ pub fn turn_listed<I: Index>(
     requires index { (n : ℕ) → I.owner index.now n ≡ owner_place (table_of_image code.now) (content_of content.now) n }
     requires right { AreInLimits code.now fuel content.now (requests_of entries.now) }
     requires lane { lane < length lanes.old }
-    requires those { (l : State) × LanesStandFor code.now fuel content.now entries.now lanes.old l × NoneHasEnded l }
+    requires those { (l : State) × LanesRepresent code.now fuel content.now entries.now lanes.old l × NoneHasEnded l }
     requires entered { readers.old ≡ map objects_read lanes.old }
-    ensures had { (l : State) → LanesStandFor code.now fuel content.now entries.now lanes.old l → NoneHasEnded l
+    ensures had { (l : State) → LanesRepresent code.now fuel content.now entries.now lanes.old l → NoneHasEnded l
         → IfOk result (HadTurn code.now fuel content.now entries.now units lane l lanes.new) }
     ensures entered { readers.new ≡ map objects_read lanes.new }
     ensures idle { OnErr result (lane_at lanes.new lane ≡ None) }

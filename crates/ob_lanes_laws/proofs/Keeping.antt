@@ -15,7 +15,7 @@ pub record Fits {S Q R A : Type 0} (rules : Rules S Q R A) (IsFit : S → Type 0
   pub alone : (s : S) (q : Q) (r : R) → IsFit s → IsAsked q → IsEnded rules s q r → means s q (rules.answer s r) (rules.commit s r)
   pub fit : (s : S) (q : Q) (r : R) → IsFit s → IsAsked q → IsEnded rules s q r → IsFit (rules.commit s r)
 
--- A busy lane stands for a run that was opened on the store of the moment and was given the units of its slices.
+-- A busy lane represents a run that was opened on the store of the moment and was given the units of its slices.
 pub record StandsOn {S Q R A : Type 0} (rules : Rules S Q R A) (batch : List Q) (l : Lanes S Q R A) (b : Busy Q R) : Type 0 where
   pub request : slice_get batch b.number ≡ Some b.request
   pub run : b.run ≡ run_of rules l.store b.given b.request

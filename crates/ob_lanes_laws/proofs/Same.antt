@@ -15,6 +15,7 @@ use Rattle.ob_base.specs.declared.permission.Mode.TheVariants.{Owned, Shared, Un
 use Rattle.ob_perm.proofs.SetLemmas.{all_below_at, all_below_from}
 use Rattle.ob_table.specs.Tables.{ClassTable, contract_at}
 use Rattle.ob_table.specs.declared.contract.Contract.{Contract}
+use Rattle.ob_heap_spec.specs.Operations.{same_truth}
 use Rattle.ob_heap_spec.specs.Values.{Value, int_value, bool_value, text_value, reference}
 use Rattle.ob_heap_spec.specs.Objects.{Object, is_available}
 use Rattle.ob_heap_spec.specs.Contents.{Handle, Content, IsContent, IsObject, IsObjectOf, object_at}
@@ -23,7 +24,7 @@ use Rattle.ob_heap_spec.specs.Worlds.{ReadItem, object_item, next_item, handle_i
 use Rattle.ob_heap_spec.proofs.Items.{item_of}
 use Rattle.ob_invocation_spec.specs.Handles.{are_handles_full}
 use Rattle.ob_request_run_laws.specs.Laws.{AgreeOn}
-use Rattle.ob_lanes_laws.specs.Conflicts.{same_truth, same_value, same_state, same_values, field_count, same_object, same_mode, same_handle, is_same_item, conflicts}
+use Rattle.ob_lanes_laws.specs.Conflicts.{same_value, same_state, same_values, field_count, same_object, same_mode, same_handle, is_same_item, conflicts}
 use Rattle.ob_lanes_laws.proofs.Keeping.{both_true}
 
 -- Values, states and handles.

@@ -1,6 +1,6 @@
 -- What conflicts: whether something that was read of a content differs in another content (Kung and Robinson, "On optimistic methods for
 -- concurrency control", ACM TODS 6(2), 1981, "validation"; what can be read is this project's own).
-use Rattle.std.specs.Prelude.{ℕ, Bool, true, false, not, ◌&&◌, nat_eq, bytes_eq, List, length, if◌then◌else◌}
+use Rattle.std.specs.Prelude.{ℕ, Bool, true, false, not, ◌&&◌, nat_eq, bytes_eq, List, length}
 use Rattle.std.specs.Ordering.{int_eq}
 use Rattle.std.specs.Option.{option_map_or, option_eq}
 use Rattle.std.specs.List.{list_any}
@@ -11,15 +11,12 @@ use Rattle.ob_base.specs.declared.permission.Mode.TheVariants.{Owned, Shared, Un
 use Rattle.ob_perm.specs.States.{all_below}
 use Rattle.ob_table.specs.Tables.{ClassTable, contract_at}
 use Rattle.ob_heap_spec.specs.Values.{Value, int_value, bool_value, text_value, reference, Numbered}
+use Rattle.ob_heap_spec.specs.Operations.{same_truth}
 use Rattle.ob_heap_spec.specs.Objects.{Object}
 use Rattle.ob_heap_spec.specs.Contents.{Handle, Content, object_at}
 use Rattle.ob_heap_spec.specs.Handles.{handle_at}
 use Rattle.ob_heap_spec.specs.Worlds.{ReadItem, object_item, next_item, handle_item, handles_full_item}
 use Rattle.ob_invocation_spec.specs.Handles.{are_handles_full}
-
--- whether two truth values are the same
-abbrev pub same_truth : Bool → Bool → Bool
-same_truth x y = if x then y else not y
 
 -- whether two values are the same
 abbrev pub same_value : Value → Value → Bool

@@ -17,7 +17,7 @@ use Rattle.ob_lexer.specs.declared.bytes.Class.TheVariants as class
 use Rattle.ob_lexer.specs.declared.strings.Heard.TheVariants as heard
 use Rattle.ob_lexer.specs.declared.step.Step.{Step}
 use Rattle.ob_lexer.specs.declared.step.Step.TheVariants.{Gap, Token, Flaw}
-use Rattle.ob_lexer.specs.Spelling.{spelling_of_word, spelling_of_sign, value_of_part, IsReserved, is_digits, value_of_digits, escaped, StringPart, itself, escape, IsPart, AreParts, StandsFor, IsString}
+use Rattle.ob_lexer.specs.Spelling.{spelling_of_word, spelling_of_sign, value_of_part, IsReserved, is_digits, value_of_digits, escaped, StringPart, itself, escape, IsPart, AreParts, SpellsContent, IsString}
 use Rattle.ob_lexer.specs.Lexis.{is_blank, IsBlank, HasClose, IsLineComment, IsBlockComment, IsLexeme, word, digits, sign as sign_lexeme, blank, line_comment, open_comment as comment_mark, open_string as quote_mark, IsLongest, Element, space, comment, token, IsElement, of_line, of_block}
 use Rattle.ob_lexer.specs.Flaws.{Flaw as Fault, Begins, IsCutOff, first_character, bad_character, open_comment, open_string, big_number, long_name, long_string, bad_escape}
 use Rattle.ob_lexer.specs.Lexing.{class_of, or_else, word_of, word_step, number_step, close_of, is_no_newline, pair_of, single_of, pair_at, goes_on, heard_of, text_step, string_from, first_step}
@@ -143,7 +143,7 @@ heard_itself b is =
     let quote = or_none (b == 34) (b == 92) none.0 in
     rw (quote.0, none.1, quote.1) refl
 
--- the parts of a string are read one after the other, as long as there is room for what they stand for
+-- the parts of a string are read one after the other, as long as there is room for what they represent
 parts_read : (parts : List StringPart) (content : List ℕ) (taken : ℕ) (rest : List ℕ) → AreParts parts → length content + length parts ≤ longest_string
     → string_from false content taken (spelled parts ++ rest) ≡ string_from false (content ++ values parts) (taken + length (spelled parts)) rest
 parts_read [] content taken rest are room =
@@ -165,7 +165,7 @@ parts_read (escape letter value ∷ parts) content taken rest are room =
     let step : string_from true content (taken + 1) (letter ∷ (spelled parts ++ rest)) ≡ string_from false (content ++ value ∷ []) (taken + 1 + 1) (spelled parts ++ rest) = rw (byte, string_from, small) refl in
     step ∙ next ∙ ap (λ (l : List ℕ). string_from false l (taken + 1 + 1 + length (spelled parts)) rest) (append_assoc content (value ∷ []) (values parts)) ∙ ap (λ (n : ℕ). string_from false (content ++ value ∷ values parts) n rest) count
 
--- or until they stand for too much
+-- or until they represent too much
 parts_overflow : (parts : List StringPart) (content : List ℕ) (taken : ℕ) (rest : List ℕ) → AreParts parts → length content ≤ longest_string → longest_string < length content + length parts
     → string_from false content taken (spelled parts ++ rest) ≡ Flaw faults.long_string 0 1
 parts_overflow [] content taken rest are short long = absurd (omega arith)
@@ -191,15 +191,15 @@ parts_overflow (escape letter value ∷ parts) content taken rest are short long
           step ∙ next
     ]
 
--- what stands for so much is read
-inside_read : (inside content rest : List ℕ) → StandsFor inside content → length content ≤ longest_string → string_from false [] 0 (inside ++ rest) ≡ string_from false content (length inside) rest
+-- what represents so much is read
+inside_read : (inside content rest : List ℕ) → SpellsContent inside content → length content ≤ longest_string → string_from false [] 0 (inside ++ rest) ≡ string_from false content (length inside) rest
 inside_read inside content rest stands short =
     let count : length content ≡ length stands.parts = ap length stands.means ∙ length-map stands.parts value_of_part in
     let read = parts_read stands.parts [] 0 rest stands.are (omega (arith, count)) in
     let many : 0 + length (spelled stands.parts) ≡ length inside = omega (arith, ap length stands.spelled) in
     ap (λ (l : List ℕ). string_from false [] 0 (l ++ rest)) stands.spelled ∙ read ∙ ap (λ (n : ℕ). string_from false (values stands.parts) n rest) many ∙ ap (λ (l : List ℕ). string_from false l (length inside) rest) (sym stands.means)
 
-inside_overflows : (inside content rest : List ℕ) → StandsFor inside content → longest_string < length content → string_from false [] 0 (inside ++ rest) ≡ Flaw faults.long_string 0 1
+inside_overflows : (inside content rest : List ℕ) → SpellsContent inside content → longest_string < length content → string_from false [] 0 (inside ++ rest) ≡ Flaw faults.long_string 0 1
 inside_overflows inside content rest stands long =
     let count : length content ≡ length stands.parts = ap length stands.means ∙ length-map stands.parts value_of_part in
     ap (λ (l : List ℕ). string_from false [] 0 (l ++ rest)) stands.spelled ∙ parts_overflow stands.parts [] 0 rest stands.are (omega arith) (omega (arith, count))
@@ -271,10 +271,10 @@ cut_off content taken [] cut = refl
 cut_off content taken (b ∷ rest) (inl same) = rw same refl
 cut_off content taken (b ∷ rest) (inr both) = rw (both.0, both.1) refl
 
-string_open : (inside content rest : List ℕ) → StandsFor inside content → length content ≤ longest_string → IsCutOff rest → step_at (34 ∷ inside ++ rest) ≡ Flaw faults.open_string 0 1
+string_open : (inside content rest : List ℕ) → SpellsContent inside content → length content ≤ longest_string → IsCutOff rest → step_at (34 ∷ inside ++ rest) ≡ Flaw faults.open_string 0 1
 string_open inside content rest stands short cut = inside_read inside content rest stands short ∙ cut_off content (length inside) rest cut
 
-escape_bad : (inside content : List ℕ) (letter : ℕ) (rest : List ℕ) → StandsFor inside content → length content ≤ longest_string → escaped letter ≡ None → step_at (34 ∷ inside ++ 92 ∷ letter ∷ rest) ≡ Flaw faults.bad_escape (length (34 ∷ inside)) 1
+escape_bad : (inside content : List ℕ) (letter : ℕ) (rest : List ℕ) → SpellsContent inside content → length content ≤ longest_string → escaped letter ≡ None → step_at (34 ∷ inside ++ 92 ∷ letter ∷ rest) ≡ Flaw faults.bad_escape (length (34 ∷ inside)) 1
 escape_bad inside content letter rest stands short none =
     let byte : heard_of true letter ≡ heard.NoEscape = ap (λ (o : Option ℕ). or_else o heard.NoEscape heard.Value) none in
     let step : string_from true content (length inside + 1) (letter ∷ rest) ≡ Flaw faults.bad_escape (length inside + 1) 1 = rw (byte, string_from) refl in

@@ -14,7 +14,7 @@ use Rattle.ob_lexer.specs.declared.bytes.Class.TheVariants as class
 use Rattle.ob_lexer.specs.declared.strings.Heard.{Heard}
 use Rattle.ob_lexer.specs.declared.strings.Heard.TheVariants as heard
 use Rattle.ob_lexer.specs.declared.step.Step.TheVariants.{Flaw}
-use Rattle.ob_lexer.specs.Spelling.{escaped, StringPart, itself, escape, IsPart, AreParts, spelling_of_part, value_of_part, StandsFor, IsString}
+use Rattle.ob_lexer.specs.Spelling.{escaped, StringPart, itself, escape, IsPart, AreParts, spelling_of_part, value_of_part, SpellsContent, IsString}
 use Rattle.ob_lexer.specs.Lexis.{IsLongest, token}
 use Rattle.ob_lexer.specs.Flaws.{IsCutOff, open_string, long_string, bad_escape}
 use Rattle.ob_lexer.specs.Lexing.{or_else, heard_of, text_step, string_from}
@@ -57,7 +57,7 @@ ends_once (escape letter value ∷ a) [] x y p q e = absurd (omega (arith, first
 ends_once (escape letter value ∷ a) (itself d ∷ b) x y p q e = absurd (backslash_no_part d q.0 (sym (first_same e)))
 ends_once (escape letter value ∷ a) (escape letter' value' ∷ b) x y p q e = ends_once a b x y p.1 q.1 (ap (drop 2) e)
 
-string_no_more : (inside content : List ℕ) (m : ℕ) (more : List ℕ) → StandsFor inside content → ¬ (InClass class.Quote 34 ((inside ++ 34 ∷ []) ++ m ∷ more))
+string_no_more : (inside content : List ℕ) (m : ℕ) (more : List ℕ) → SpellsContent inside content → ¬ (InClass class.Quote 34 ((inside ++ 34 ∷ []) ++ m ∷ more))
 string_no_more inside content m more stands (inl none) =
     let count : length ((inside ++ 34 ∷ []) ++ m ∷ more) ≡ 0 = ap length none in
     omega (arith, count, length-append (inside ++ 34 ∷ []) (m ∷ more))
@@ -68,7 +68,7 @@ string_no_more inside content m more stands (inr other) =
     let same : m ∷ more ≡ [] = ends_once stands.parts s.stands.parts (m ∷ more) [] stands.are s.stands.are parts in
     cc
 
-pub string_longest : (inside content rest : List ℕ) → StandsFor inside content → IsLongest (34 ∷ inside ++ 34 ∷ []) rest
+pub string_longest : (inside content rest : List ℕ) → SpellsContent inside content → IsLongest (34 ∷ inside ++ 34 ∷ []) rest
 string_longest inside content rest stands =
     longest_in class.Quote 34 (inside ++ 34 ∷ []) rest refl (λ m more others parts is. string_no_more inside content m more stands is)
 
@@ -143,7 +143,7 @@ module _ (text : List ℕ) (after : Bool) (content seen : List ℕ) (b : ℕ) (r
     means_on =
         ap (λ (l : List ℕ). l ++ value ∷ []) s.means ∙ ap (λ (v : ℕ). values s.parts ++ v ∷ []) (sym last.means) ∙ sym (map-append value_of_part s.parts (last.part ∷ []))
 
-    stands_on : StandsFor (seen ++ b ∷ []) (content ++ value ∷ [])
+    stands_on : SpellsContent (seen ++ b ∷ []) (content ++ value ∷ [])
     stands_on = record { parts = s.parts ++ last.part ∷ []; are = are_on; spelled = reads_on; means = means_on }
 
     goes_on_with : (nat_le longest_string (length content)) ≡ false → IsSoFar text false (content ++ value ∷ []) (seen ++ b ∷ []) rest
@@ -164,16 +164,16 @@ module _ (text : List ℕ) (after : Bool) (content seen : List ℕ) (b : ℕ) (r
         let long : longest_string < length (content ++ value ∷ []) = omega (arith, length-append content (value ∷ [])) in
         subst (λ (t : List ℕ). IsStepAt t (Flaw faults.long_string 0 1)) (sym read_on) (flaw_at_first 34 ((seen ++ b ∷ []) ++ rest) faults.long_string (long_string (seen ++ b ∷ []) (content ++ value ∷ []) rest refl stands_on long refl))
 
--- without a backslash at the end, what was read stands for the content
-stands_so_far : (text content seen rest : List ℕ) → IsSoFar text false content seen rest → StandsFor seen content
+-- without a backslash at the end, what was read represents the content
+stands_so_far : (text content seen rest : List ℕ) → IsSoFar text false content seen rest → SpellsContent seen content
 stands_so_far text content seen rest s =
     record { parts = s.parts; are = s.are; spelled = s.reads ∙ append-nil (spelled s.parts); means = s.means }
 
-parts_stand : (text : List ℕ) (after : Bool) (content seen rest : List ℕ) → (s : IsSoFar text after content seen rest) → StandsFor (spelled s.parts) content
+parts_stand : (text : List ℕ) (after : Bool) (content seen rest : List ℕ) → (s : IsSoFar text after content seen rest) → SpellsContent (spelled s.parts) content
 parts_stand text after content seen rest s = record { parts = s.parts; are = s.are; spelled = refl; means = s.means }
 
 -- the line or the text ends within a string
-open_at : (text content inside rest : List ℕ) → text ≡ 34 ∷ inside ++ rest → StandsFor inside content → length content ≤ longest_string → IsCutOff rest → IsStepAt text (Flaw faults.open_string 0 1)
+open_at : (text content inside rest : List ℕ) → text ≡ 34 ∷ inside ++ rest → SpellsContent inside content → length content ≤ longest_string → IsCutOff rest → IsStepAt text (Flaw faults.open_string 0 1)
 open_at text content inside rest whole stands short cut =
     subst (λ (t : List ℕ). IsStepAt t (Flaw faults.open_string 0 1)) (sym whole) (flaw_at_first 34 (inside ++ rest) faults.open_string (open_string inside content rest refl stands short cut refl))
 

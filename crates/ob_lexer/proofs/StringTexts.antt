@@ -1,4 +1,4 @@
--- What stands between quotes is UTF-8 where the text is, and so is what it stands for.
+-- What stands between quotes is UTF-8 where the text is, and so is what it represents.
 use Rattle.std.proofs.Common.{ℕ, ◌≡◌, ◌+◌, ◌<◌, ◌≤◌, ◌==◌, nat_le, Bool, true, false, cond, List, [], ◌∷◌, ◌++◌, length, map, get_or, Option, Some, None, inl, inr, refl, sym, ap, subst, ◌∙◌, arith, add-one, append-nil, length-append}
 use Rattle.std.specs.List.{flat_map}
 use Rattle.std.specs.Char.{encode_utf8, IsScalar}
@@ -9,9 +9,9 @@ use Rattle.std.proofs.Math.Seq.{take-append_seam, drop-append-add, get_or-append
 use Rattle.ob_base.specs.Limits.{longest_string}
 use lib.Utf8.{scalar}
 use Rattle.ob_base.specs.Names.{is_text}
-use Rattle.ob_lexer.specs.Spelling.{escaped, StringPart, itself, escape, AreParts, spelling_of_part, value_of_part, StandsFor}
+use Rattle.ob_lexer.specs.Spelling.{escaped, StringPart, itself, escape, AreParts, spelling_of_part, value_of_part, SpellsContent}
 
--- ---- what an escape stands for is ASCII, and so is its letter
+-- ---- what an escape represents is ASCII, and so is its letter
 
 abbrev IsLow : ℕ → ℕ → Type 0
 IsLow letter value = (letter < 128) × (value < 128)
@@ -30,13 +30,13 @@ escape_low : (letter value : ℕ) → escaped letter ≡ Some value → IsLow le
 escape_low letter value =
     low_row letter 34 34 value _ (omega arith) (omega arith) (low_row letter 92 92 value _ (omega arith) (omega arith) (low_row letter 110 10 value _ (omega arith) (omega arith) (low_row letter 116 9 value None (omega arith) (omega arith) (λ e. absurd cc))))
 
--- ---- a character of several bytes stands for itself
+-- ---- a character of several bytes represents itself
 
 abbrev AreHigh : List ℕ → Type 0
 AreHigh [] = Unit {0}
 AreHigh (b ∷ bytes) = (128 ≤ b) × AreHigh bytes
 
--- The parts after such bytes, and what all of them stand for.
+-- The parts after such bytes, and what all of them represent.
 record PartsAfter (bytes rest : List ℕ) (parts : List StringPart) : Type 0 where
   after : List StringPart
   are : AreParts after
@@ -77,7 +77,7 @@ IsSpelled true bytes [] = ⊥
 IsSpelled true bytes (itself b ∷ parts) = ⊥
 IsSpelled true bytes (escape letter value ∷ parts) = bytes ≡ letter ∷ flat_map spelling_of_part parts
 
--- One byte of parts: it stands for itself, or is a backslash.
+-- One byte of parts: it represents itself, or is a backslash.
 data ByteOf (c : ℕ) (rest : List ℕ) (parts : List StringPart) : Type 0 where
   is_itself : (after : List StringPart) → AreParts after → IsSpelled false rest after → map value_of_part parts ≡ c ∷ map value_of_part after → ByteOf c rest parts
   is_backslash : IsSpelled true rest parts → ByteOf c rest parts
@@ -152,7 +152,7 @@ after_quote before rest utf8 =
     subst IsUtf8 (drop-append-add before (34 ∷ rest) 1) (IsUtf8-drop (before ++ 34 ∷ rest) (length before + 1) utf8 cut)
 
 -- The content of a string in a text is a text, if it isn't too long.
-pub content_is_text : (inside content rest : List ℕ) → IsUtf8 (inside ++ 34 ∷ rest) → StandsFor inside content → length content ≤ longest_string → is_text content ≡ true
+pub content_is_text : (inside content rest : List ℕ) → IsUtf8 (inside ++ 34 ∷ rest) → SpellsContent inside content → length content ≤ longest_string → is_text content ≡ true
 content_is_text inside content rest utf8 stands short =
     let u = before_quote inside rest utf8 in
     let text : IsUtf8 content = rw stands.means (content_of_parts u.0 false stands.parts u.1.0 stands.are (u.1.1 ∙ stands.spelled)) in

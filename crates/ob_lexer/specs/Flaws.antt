@@ -6,7 +6,7 @@ use Rattle.ob_base.specs.Limits.{longest_name, longest_string, longest_program}
 use Rattle.ob_base.specs.Names.{is_word}
 use Rattle.ob_base.specs.declared.fault.ProgramFault.{ProgramFault}
 use Rattle.ob_base.specs.Faults as faults
-use Rattle.ob_lexer.specs.Spelling.{is_digits, value_of_digits, escaped, StandsFor}
+use Rattle.ob_lexer.specs.Spelling.{is_digits, value_of_digits, escaped, SpellsContent}
 use Rattle.ob_lexer.specs.Spans.{begins_character, fault_at}
 use Rattle.ob_lexer.specs.Lexis.{HasClose, IsLexeme, IsLongest, Piece, text_of, ArePieces}
 
@@ -34,11 +34,11 @@ IsCutOff (b ∷ rest) = (b ≡ 10) ⊎ ((b ≡ 92) × (rest ≡ []))
 pub data Begins (text : List ℕ) (flaw : Flaw) : Type 0 where
   bad_character : (b : ℕ) (rest : List ℕ) → text ≡ b ∷ rest → ((bytes after : List ℕ) → text ≡ bytes ++ after → ¬ (IsLexeme bytes)) → flaw ≡ flaw_at faults.bad_character [] (first_character text) → Begins text flaw
   open_comment : (rest : List ℕ) → text ≡ codes "/*" ++ rest → ¬ (HasClose rest) → flaw ≡ flaw_at faults.open_comment [] (codes "/*") → Begins text flaw
-  open_string : (inside content rest : List ℕ) → text ≡ 34 ∷ inside ++ rest → StandsFor inside content → length content ≤ longest_string → IsCutOff rest → flaw ≡ flaw_at faults.open_string [] (codes "\"") → Begins text flaw
+  open_string : (inside content rest : List ℕ) → text ≡ 34 ∷ inside ++ rest → SpellsContent inside content → length content ≤ longest_string → IsCutOff rest → flaw ≡ flaw_at faults.open_string [] (codes "\"") → Begins text flaw
   big_number : (digits rest : List ℕ) → text ≡ digits ++ rest → IsTrue (is_digits digits) → IsLongest digits rest → 2 ^ 63 ≤ value_of_digits digits → flaw ≡ flaw_at faults.big_number [] (take 1 text) → Begins text flaw
   long_name : (word rest : List ℕ) → text ≡ word ++ rest → IsTrue (is_word word) → IsLongest word rest → longest_name < length word → flaw ≡ flaw_at faults.long_name [] (take 1 text) → Begins text flaw
-  long_string : (inside content rest : List ℕ) → text ≡ 34 ∷ inside ++ rest → StandsFor inside content → longest_string < length content → flaw ≡ flaw_at faults.long_string [] (codes "\"") → Begins text flaw
-  bad_escape : (inside content : List ℕ) (letter : ℕ) (rest : List ℕ) → text ≡ 34 ∷ inside ++ 92 ∷ letter ∷ rest → StandsFor inside content → length content ≤ longest_string → escaped letter ≡ None → flaw ≡ flaw_at faults.bad_escape (34 ∷ inside) (92 ∷ []) → Begins text flaw
+  long_string : (inside content rest : List ℕ) → text ≡ 34 ∷ inside ++ rest → SpellsContent inside content → longest_string < length content → flaw ≡ flaw_at faults.long_string [] (codes "\"") → Begins text flaw
+  bad_escape : (inside content : List ℕ) (letter : ℕ) (rest : List ℕ) → text ≡ 34 ∷ inside ++ 92 ∷ letter ∷ rest → SpellsContent inside content → length content ≤ longest_string → escaped letter ≡ None → flaw ≡ flaw_at faults.bad_escape (34 ∷ inside) (92 ∷ []) → Begins text flaw
 
 -- The text has too many bytes.
 pub record IsTooLong (text : List ℕ) (fault : ProgramFault) : Type 0 where

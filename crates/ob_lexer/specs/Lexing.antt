@@ -46,7 +46,7 @@ abbrev pub single_of : ℕ → Option Sign
 single_of b =
     if b == 123 then Some sign.OpenBrace else (if b == 125 then Some sign.CloseBrace else (if b == 40 then Some sign.OpenParen else (if b == 41 then Some sign.CloseParen else (if b == 91 then Some sign.OpenBracket else (if b == 93 then Some sign.CloseBracket else (if b == 59 then Some sign.Semicolon else (if b == 44 then Some sign.Comma else (if b == 46 then Some sign.Dot else (if b == 64 then Some sign.At else (if b == 124 then Some sign.Bar else (if b == 61 then Some sign.Equals else (if b == 60 then Some sign.Less else (if b == 62 then Some sign.Greater else (if b == 43 then Some sign.Plus else (if b == 45 then Some sign.Minus else (if b == 42 then Some sign.Star else (if b == 47 then Some sign.Slash else (if b == 37 then Some sign.Percent else (if b == 33 then Some sign.Not else None)))))))))))))))))))
 
--- the number that digits stand for, below 2^63
+-- the number that digits represent, below 2^63
 abbrev pub number_of : List ℕ → Option ℤ
 number_of digits = if nat_lt (value_of_digits digits) (2 ^ 63) then Some (pos (value_of_digits digits)) else None
 
@@ -65,7 +65,7 @@ abbrev pub word_step : List ℕ → Step
 word_step bytes =
     or_else (word_of bytes) (if is_name bytes then Token (kind.Name bytes) (length bytes) else Flaw long_name 0 1) (λ w. Token (kind.Word w) (length bytes))
 
--- the number that digits stand for
+-- the number that digits represent
 abbrev pub number_step : List ℕ → Step
 number_step bytes = or_else (number_of bytes) (Flaw big_number 0 1) (λ n. Token (kind.Number n) (length bytes))
 

@@ -82,23 +82,23 @@ IsReserved bytes = (w : Word) × (bytes ≡ spelling_of_word w)
 abbrev pub is_digits : List ℕ → Bool
 is_digits bytes = nat_le 1 (length bytes) && list_all is_digit bytes
 
--- the number that digits stand for, in base ten
+-- the number that digits represent, in base ten
 abbrev pub value_of_digits : List ℕ → ℕ
 value_of_digits digits = fold (λ value digit. value * 10 + (digit - 48)) 0 digits
 
 -- ---- strings
 
--- the byte that a backslash and this letter stand for: `"`, a backslash, a newline or a tab
+-- the byte that a backslash and this letter represent: `"`, a backslash, a newline or a tab
 abbrev pub escaped : ℕ → Option ℕ
 escaped letter =
     if letter == 34 then Some 34 else (if letter == 92 then Some 92 else (if letter == 110 then Some 10 else (if letter == 116 then Some 9 else None)))
 
--- a part of a string: a byte that stands for itself, or a backslash and a letter that stand for a byte
+-- a part of a string: a byte that represents itself, or a backslash and a letter that represent a byte
 pub data StringPart : Type 0 where
   itself : ℕ → StringPart
   escape : ℕ → ℕ → StringPart
 
--- any byte but `"`, a backslash and a newline stands for itself
+-- any byte but `"`, a backslash and a newline represents itself
 abbrev pub IsPart : StringPart → Type 0
 IsPart (itself b) = IsTrue (not (b == 34 || b == 92 || b == 10))
 IsPart (escape letter value) = escaped letter ≡ Some value
@@ -113,13 +113,13 @@ abbrev pub spelling_of_part : StringPart → List ℕ
 spelling_of_part (itself b) = b ∷ []
 spelling_of_part (escape letter value) = 92 ∷ letter ∷ []
 
--- the byte that it stands for
+-- the byte that it represents
 abbrev pub value_of_part : StringPart → ℕ
 value_of_part (itself b) = b
 value_of_part (escape letter value) = value
 
--- These bytes, between quotes, stand for that content.
-pub record StandsFor (bytes content : List ℕ) : Type 0 where
+-- These bytes, between quotes, represent that content.
+pub record SpellsContent (bytes content : List ℕ) : Type 0 where
   pub parts : List StringPart
   pub are : AreParts parts
   pub spelled : bytes ≡ flat_map spelling_of_part parts
@@ -129,7 +129,7 @@ pub record StandsFor (bytes content : List ℕ) : Type 0 where
 pub record IsString (bytes content : List ℕ) : Type 0 where
   pub inside : List ℕ
   pub quoted : bytes ≡ 34 ∷ inside ++ 34 ∷ []
-  pub stands : StandsFor inside content
+  pub stands : SpellsContent inside content
 
 -- ---- tokens
 

@@ -42,7 +42,7 @@ pub fn flaw(number: u16, length: usize) -> Step
     }
 }
 
-/// The number that digits stand for, if it is below 2^63.
+/// The number that digits represent, if it is below 2^63.
 fn number_of(digits: &[u8]) -> Option<i64>
     ensures { result ≡ number_of digits.now }
 {

@@ -11,7 +11,7 @@ use std::alloc::Global;
 /// What a byte of a string is.
 #[derive(Clone, Copy)]
 pub enum Heard {
-    /// It stands for this byte.
+    /// It represents this byte.
     Value(u8),
     /// The next byte is the letter of an escape.
     Backslash,
@@ -23,7 +23,7 @@ pub enum Heard {
     NoEscape,
 }
 
-/// What a backslash and this letter stand for.
+/// What a backslash and this letter represent.
 fn escaped(letter: u8) -> Option<u8>
     ensures { result ≡ escaped letter }
 {

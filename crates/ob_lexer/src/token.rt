@@ -7,7 +7,7 @@ use std::alloc::Global;
 /// A token of a program, with the position where it stands.
 #[derive(Drop)]
 pub struct Token {
-    /// Which token it is, with the name, number or text that it stands for, if any.
+    /// Which token it is, with the name, number or text that it represents, if any.
     pub kind: TokenKind,
     /// Where it stands in the text.
     pub span: Span,

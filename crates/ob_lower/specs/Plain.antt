@@ -46,7 +46,7 @@ set_seen a seen from =
     >>= (λ kind. found (place_seen a.variables seen)
     >>= (λ place. Ok (set_place kind place from)))
 
--- the terms of a value whose temporaries aren't dropped, with the operand that stands for it
+-- the terms of a value whose temporaries aren't dropped, with the operand that represents it
 abbrev pub alone_code : StaticFrame → Expression → Span → BlockPosition → SilicaTerms → Result (SilicaTerms × Operand) Stop
 alone_code f e span q out =
     value_code (around_at f q span) e (begun (slots_from q.slots) span out) >>= (λ x. Ok (x.0.terms, x.1))

@@ -16,7 +16,7 @@ use ob_silica::{Form, Operand, Place, SilicaOperator, Term};
 use ob_table::{BinaryOperator, LogicalOperator, ResolvedCall, ResolvedExpr, UnaryOperator};
 use std::alloc::Global;
 
-/// An expression: the operand that stands for its value, if it has one.
+/// An expression: the operand that represents its value, if it has one.
 #[cycle(lower_expression)]
 #[tactic(auto, using(crate::proofs::ExpressionsLemmas::expressions))]
 pub fn lower_expression(
@@ -83,7 +83,7 @@ pub fn lower_expression(
     }
 }
 
-/// An expression that must have a value: the operand that stands for it.
+/// An expression that must have a value: the operand that represents it.
 #[cycle(lower_expression)]
 #[tactic(auto, using(crate::proofs::ExpressionsLemmas::expressions))]
 pub fn lower_value(

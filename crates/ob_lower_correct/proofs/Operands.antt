@@ -37,7 +37,7 @@ use Rattle.ob_lower_correct.proofs.Plain.{Plain}
 use Rattle.ob_lower_correct.proofs.Calling.{read_values, Called, Passes, Answers, CallsRun}
 use Rattle.ob_lower_correct.proofs.Values.{InSlot, Result, in_slot_on, in_slot_wide, in_slot, read_in_slot}
 
--- an operand stands for what the operand of a term does
+-- an operand represents what the operand of a term does
 abbrev pub MeansBy : List SlotVariable → meaning.SourceOperand → Operand → List ℕ → Here → Type 0
 MeansBy vs (known v) o used t = InSlot o v used t
 MeansBy vs (named seen) o used t = place_seen vs seen ≡ Some o.place

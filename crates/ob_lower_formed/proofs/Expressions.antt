@@ -49,7 +49,7 @@ slot_named f vs used h n (Some j) place kind s e p k =
     subst (λ q. Holds f used h q kind) (some_same p)
     (record { is = ap (λ (o : SlotContent). o.kind) x.holds ∙ sym x.is ∙ k; inside = x.inside })
 
--- a name's place holds what the name stands for
+-- a name's place holds what the name denotes
 pub name_holds : {f : StaticFrame} {vs : List SlotVariable} {used : List ℕ} {h : Holdings} (seen : Seen) (place : Place) (kind : Kind)
     → Stands f vs used h → place_seen vs seen ≡ Some place → kind_of_seen f (locals_of vs) seen ≡ Some kind → Holds f used h place kind
 name_holds {f} {vs} {used} {h} ThisSeen place kind s p k =

@@ -68,7 +68,7 @@ pub grown_same : (p : Progress) (ts us : SilicaTerms) (xs : List Temporary) (n m
     → ts ≡ us → n ≡ m → Grown p ts xs n used q → Grown p us xs m used q
 grown_same p ts us xs n m used q e f g = subst (λ t. Grown p t xs m used q) e (subst (λ k. Grown p ts xs k used q) f g)
 
--- a form that sets the next slot, which stands for an expression
+-- a form that sets the next slot, which represents an expression
 pub record Placed (a : AroundExpression) (used : List ℕ) (is_ref : Bool) (span : Span) (form : ℕ → SilicaForm) (p : Progress)
     (x : Progress × Operand) : Type 0 where
   pub free : IsFree p.slots.top used

@@ -92,7 +92,7 @@ call_code a receiver contract tx span (Some kind) x =
     into_slot a (is_reference kind) span (λ k. form_of_call (Some k) receiver contract tx x.1) x.0 >>= value
 
 abbrev mutual
-  -- an expression: the progress after it, and the operand that stands for its value, if it has one
+  -- an expression: the progress after it, and the operand that represents its value, if it has one
   pub expression_code : AroundExpression → Expression → Progress → Result (Progress × Option Operand) Stop
   expression_code a (resolved_number number span) p = constant_code a (Int number) span p >>= value
   expression_code a (resolved_text text span) p = constant_code a (Text text) span p >>= value

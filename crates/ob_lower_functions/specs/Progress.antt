@@ -52,7 +52,7 @@ pub record Progress : Type 0 where
 abbrev pub with_term : SilicaTerms → SilicaForm → Span → SilicaTerms
 with_term terms form span = then_terms terms (one_term form span)
 
--- a form that sets the next slot, which stands for the expression at this place
+-- a form that sets the next slot, which represents the expression at this place
 abbrev pub into_slot : AroundExpression → Bool → Span → (ℕ → SilicaForm) → Progress → Result (Progress × Operand) Stop
 into_slot a is_ref span form p =
     next_slot span p.slots >>= (λ s. Ok (

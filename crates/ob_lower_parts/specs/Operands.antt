@@ -25,7 +25,7 @@ IsLeaf (resolved_new contract args span) = ⊥
 abbrev pub with_value : Result (Progress × Operand) Stop → Result (Progress × Option Operand) Stop
 with_value made = made >>= value
 
--- a term that sets this slot, which stands for the expression at this place
+-- a term that sets this slot, which represents the expression at this place
 abbrev pub set_code : AroundExpression → ℕ → SilicaForm → Span → SilicaTerms → Result (SilicaTerms × Option Operand) Stop
 set_code a k form span out = Ok (with_term out form a.span, Some (slot_operand k span))
 

@@ -128,7 +128,7 @@ impl<'a> AroundExpression<'a> {
         }
     }
 
-    /// The kind of what a name stands for.
+    /// The kind of what a name denotes.
     pub fn kind_of_seen(&self, seen: Seen) -> Option<Kind>
         ensures { result ≡ kind_of_seen self.now.frame (locals_of self.now.variables) seen }
     {
@@ -143,7 +143,7 @@ impl<'a> AroundExpression<'a> {
         }
     }
 
-    /// Where what a name stands for is found.
+    /// Where what a name denotes is found.
     pub fn place_seen(&self, seen: Seen) -> Option<Place>
         ensures { result ≡ place_seen self.now.variables seen }
     {

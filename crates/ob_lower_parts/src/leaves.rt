@@ -11,7 +11,7 @@ use crate::{Code, Slots, Stopped};
 use ob_silica::{Constant, Operand};
 use ob_table::ResolvedExpr;
 
-/// An expression without parts: the operand that stands for its value.
+/// An expression without parts: the operand that represents its value.
 #[tactic(auto, using(ob_table::specs::ExpressionsView::expression_views))]
 pub fn lower_leaf(
     e: &ResolvedExpr,

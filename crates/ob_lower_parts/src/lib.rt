@@ -1,6 +1,6 @@
 //! What lowering works with: the slots of a statement and the terms so far, where slots are dropped, and why lowering stops;
 //! the variables that are visible, what stands around an expression, and the slots that terms name; and what needs no other
-//! expression: expressions without parts, and the last terms of those with parts, which stand for the value of a call, of
+//! expression: expressions without parts, and the last terms of those with parts, which represent the value of a call, of
 //! `new` or of an operator once its parts have their places.
 #![tactic(auto)]
 

@@ -11,7 +11,7 @@ use ob_base::Span;
 use ob_silica::{Form, Operand, Place};
 use ob_table::{Kind, Seen, SeenAt};
 
-// A name of this kind, which stands for this place.
+// A name of this kind, which denotes this place.
 fn lower_name(
     kind: Kind,
     from: Operand,

@@ -15,7 +15,7 @@ use ob_base::{Duplicate, Memory, Span, Text};
 use ob_silica::{Constant, Form, Operand, Place};
 use ob_table::Kind;
 
-/// A slot that stands for a part of the text.
+/// A slot that represents a part of the text.
 pub fn slot_operand(slot: u8, span: Span) -> Operand
     ensures { result ≡ slot_operand slot span }
 {
@@ -52,7 +52,7 @@ pub fn keep_reference(is_ref: bool, slot: u8, slots: &mut Slots) -> Result<(), M
     Ok(())
 }
 
-/// A term that sets this slot, which stands for a part of the text.
+/// A term that sets this slot, which represents a part of the text.
 pub fn put_into(
     slot: u8,
     form: Form,

@@ -107,7 +107,7 @@ impl Variables {
         }
     }
 
-    /// Where what a name stands for is found.
+    /// Where what a name denotes is found.
     #[tactic(auto, using(crate::proofs::VariablesLemmas::found))]
     pub fn place_seen(&self, seen: Seen) -> Option<Place>
         ensures { result ≡ place_seen self.now seen }

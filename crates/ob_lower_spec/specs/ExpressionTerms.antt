@@ -19,7 +19,7 @@ use Rattle.ob_silica.specs.declared.place.Place.TheVariants.{Slot}
 use Rattle.ob_lower_spec.specs.Forms.{locals_of, place_seen, AroundExpression, operand, slot_operand, logical_form}
 use Rattle.ob_lower_spec.specs.Points.{IsFree, Temporary, in_use}
 
--- what an expression is lowered to: its terms, the operand that stands for its value, the temporaries in the order made
+-- what an expression is lowered to: its terms, the operand that represents its value, the temporaries in the order made
 pub record Lowered : Type 0 where
   pub terms : SilicaTerms
   pub operand : Operand
@@ -39,7 +39,7 @@ kind_around a e = kind_of_expression a.frame (locals_of a.variables) e
 abbrev pub temporary : ℕ → Bool → Temporary
 temporary k is_ref = record { slot = k; is_reference = is_ref }
 
--- terms, and then a form that sets a temporary, which stands for the expression at this place
+-- terms, and then a form that sets a temporary, which represents the expression at this place
 abbrev pub into : AroundExpression → SilicaTerms → List Temporary → SilicaForm → ℕ → Bool → Span → Lowered
 into a terms made form k is_ref span = record {
   terms = then_terms terms (one_term form a.span);

@@ -35,7 +35,7 @@ abbrev pub slot_of : List SlotVariable → ℕ → Option ℕ
 slot_of [] n = None
 slot_of (v ∷ vs) n = if nat_eq n v.local then Some v.slot else slot_of vs n
 
--- where what a name stands for is found, if it is visible
+-- where what a name denotes is found, if it is visible
 abbrev pub place_seen : List SlotVariable → Seen → Option Place
 place_seen variables ThisSeen = Some This
 place_seen variables (Local n) = option_map Slot (slot_of variables n)
@@ -54,11 +54,11 @@ pub record AroundExpression : Type 0 where
   pub variables : List SlotVariable
   pub span : Span
 
--- a place that stands for a part of the text
+-- a place that represents a part of the text
 abbrev pub operand : Place → Span → Operand
 operand place span = record { place = place; span = span }
 
--- a slot that stands for a part of the text
+-- a slot that represents a part of the text
 abbrev pub slot_operand : ℕ → Span → Operand
 slot_operand k span = operand (Slot k) span
 

@@ -27,7 +27,7 @@ one_more n span = record { slots = n + 1; span = span } ∷ []
 
 -- Expressions.
 
--- whether a name stands for a reference, which needs no temporary
+-- whether a name denotes a reference, which needs no temporary
 abbrev pub names_reference : StaticFrame → LocalKinds → Seen → Bool
 names_reference f ls seen = option_map_or is_reference (kind_of_seen f ls seen) false
 

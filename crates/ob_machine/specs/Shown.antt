@@ -59,13 +59,13 @@ cause_of (Overflow line) = by_overflow line
 cause_of Fuel = by_fuel
 cause_of Full = by_full
 
--- what the code tells of a step after which the machine stands for this configuration
+-- what the code tells of a step after which the machine represents this configuration
 abbrev pub told : Configuration → Progress → Next
 told c Going = goes c
 told c (Finished result) = stops (ended (option_map value_of result) c.world)
 told c (Aborted cause) = abort (cause_of cause) c.world
 
--- the code makes the step of the definition, after which the machine stands for this configuration, up to the order of what was
+-- the code makes the step of the definition, after which the machine represents this configuration, up to the order of what was
 -- read; or there is no step; or memory ran out
 abbrev pub Tells : Result Progress Off → Option Next → Configuration → Type 0
 Tells (Ok progress) spec c = SameNext spec (Some (told c progress))

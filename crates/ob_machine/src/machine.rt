@@ -106,7 +106,7 @@ impl Machine {
         self.run.units.taken()
     }
 
-    // The next step, if there is one.
+    /// The next step, if there is one.
     pub fn advance(
         &mut self,
         code: &Image,

@@ -65,8 +65,8 @@ pub record IsOverAfter (image : Image) (n : ℕ) (p : Phase) : Type 0 where
 abbrev pub RunsEnd : Type 0
 RunsEnd = (image : Image) (p : Phase) → LeadsAheadOrToUnit image → IsSoundRun image p → IsOverAfter image (steps_left image p) p
 
--- Such a run from an entry is over after at most two more than its units times the instructions of the longest body, where some
--- body has an instruction.
+-- Such a run from an entry is over after at most (units + 2) * n steps, where n > 0 is the number of instructions of the longest
+-- body.
 abbrev pub EntriesEnd : Type 0
 EntriesEnd =
     (image : Image) (e : MachineEntry) (w : World) → LeadsAheadOrToUnit image → 0 < longest image

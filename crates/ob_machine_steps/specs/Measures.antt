@@ -34,7 +34,7 @@ longest image = longest_of image.contracts
 
 -- The work of a frame falls into rounds. A round ends at the first `unit` to which it comes: that begins the next one, and pays for it.
 
--- how many of so many instructions are left to a round, by the next one
+-- how many of so many instructions are left to a round, by the next one: none where that is a `unit`, which begins another round
 abbrev pub left_of_round : Option Instruction → ℕ → ℕ
 left_of_round (Some instruction.Unit) n = 0
 left_of_round other n = n
@@ -58,7 +58,7 @@ abbrev pub steps_left : Image → Phase → ℕ
 steps_left image (starting e w) = suc (suc (w.fuel * longest image))
 steps_left image (running c) = steps_most image c
 
--- a place of a body is ahead of another, or a `unit` stands there
+-- a jump from one place of a body to another leads forward, or to a `unit`
 abbrev pub IsAheadOrUnit : Image → ContractId → TxId → ℕ → ℕ → Type 0
 IsAheadOrUnit image contract tx place target =
     (place < target) ⊎ (instruction_at image contract tx target ≡ Some instruction.Unit)

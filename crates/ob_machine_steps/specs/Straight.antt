@@ -27,7 +27,7 @@ unit_step c = with_unit c.world (λ w. goes_on (with_world w c))
 abbrev pub int_step : ℕ → ℤ → Configuration → Option Next
 int_step k z c = sets k (int_value z) c
 
--- `bool`: a slot gets a truth value, which 1 stands for if it holds
+-- `bool`: a slot gets a truth value: true for 1, false for any other number
 abbrev pub bool_step : ℕ → ℕ → Configuration → Option Next
 bool_step k b c = sets k (bool_value (b == 1)) c
 

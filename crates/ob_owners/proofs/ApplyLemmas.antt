@@ -234,7 +234,7 @@ plain_names [] h = tt
 plain_names (x ∷ hs) h =
     (plain_before x.0 hs (λ j y l. h 0 (suc j) y (omega arith) (omega (arith, l))), plain_names hs (λ i j y k l. h (suc i) (suc j) y (omega (arith, k)) (omega (arith, l))))
 
--- handles that stand for those of a delta, where there are some
+-- handles that represent those of a delta, where there are some
 abbrev filled : ((Label × Label) × Option Handle → Option Handle) → List ((Label × Label) × Option Handle) → List (HandleName × PlainHandle)
 filled go ds = filter_map (λ (d : (Label × Label) × Option Handle). option_map (λ h. (name_of d.0, handle_of h)) (go d)) ds
 
@@ -280,7 +280,7 @@ no_name m (x ∷ hs) b = by (is_eq (name_order x.0 m)) refl (no_name m hs b.1)
         absurd (true≢false (sym is ∙ ap (λ z. is_eq (name_order z m)) same ∙ ap (λ z. is_eq (name_order m z)) (sym same) ∙ ap is_eq b.0))
     by false is rest = ap (λ c. if c then Some x.1 else look_name m hs) is ∙ rest
 
--- the handle of a name among those that stand for a delta's
+-- the handle of a name among those that represent a delta's
 look_filled : (go : (Label × Label) × Option Handle → Option Handle) (found : Option Handle → Option Handle) (m : HandleName) (ds : List ((Label × Label) × Option Handle)) → InOrder ds
     → ((d : (Label × Label) × Option Handle) → name_of d.0 ≡ m → go d ≡ found d.1)
     → look_name m (filled go ds) ≡ option_map_or (λ (c : Option Handle). option_map handle_of (found c)) (change_at m ds) None
@@ -339,11 +339,11 @@ replaced old new = record { all = by new ∙ sym (ap (λ b. new || b) (left_none
 untouched : (old : Bool) → Turns old false false old
 untouched old = record { all = refl; apart = λ e. absurd (true≢false (sym e)); was = λ e. absurd (true≢false (sym e)) }
 
-field_turns : (owns : PlainObject → Bool) (x y : Option Object) → Turns (option_map_or owns (option_map object_of y) false)
+field_is_as_at_head : (owns : PlainObject → Bool) (x y : Option Object) → Turns (option_map_or owns (option_map object_of y) false)
     (option_map_or owns (if is_some x then option_map object_of y else None) false) (option_map_or owns (option_map object_of x) false)
     (option_map_or owns (option_map object_of (option_or x y)) false)
-field_turns owns None y = untouched (option_map_or owns (option_map object_of y) false)
-field_turns owns (Some o) y = replaced (option_map_or owns (option_map object_of y) false) (owns (object_of o))
+field_is_as_at_head owns None y = untouched (option_map_or owns (option_map object_of y) false)
+field_is_as_at_head owns (Some o) y = replaced (option_map_or owns (option_map object_of y) false) (owns (object_of o))
 
 handle_turns : (owns : PlainHandle → Bool) (x : Option (Option Handle)) (y : Option Handle) → Turns (option_map_or owns (option_map handle_of y) false)
     (option_map_or owns (option_map_or (λ (c : Option Handle). option_map handle_of y) x None) false) (option_map_or owns (option_map_or (λ (c : Option Handle). option_map handle_of c) x None) false)
@@ -381,7 +381,7 @@ turn_of table c d n is_delta names names_after (stored_field h k) =
     ∙ ap (λ o. option_map_or owns o false) (look_coming h es))
     (field_told table n h k 0 (enumerate_from 0 (map object_of news)) (map named_of (with_handles c.handles d.handles)) (numbered_ascend 0 (map object_of news))
     ∙ ap (λ o. option_map_or owns o false) (look_all h news ∙ ap (option_map object_of) (object_after h c.objects es is_delta.objects is_delta.next)))
-    (field_turns owns (at_id h es) (slice_get c.objects h))
+    (field_is_as_at_head owns (at_id h es) (slice_get c.objects h))
 turn_of table c d n is_delta names names_after (stored_handle m) =
     let owns = handle_owns n m in
     let ds = d.handles in

@@ -1,4 +1,4 @@
--- The parts of members and contracts that no node of a tree stands for, as plain data.
+-- The parts of members and contracts that no node of a tree represents, as plain data.
 use Rattle.std.specs.Prelude.{Bool, List, map, option_map}
 use Rattle.ob_base.specs.declared.fault.Span.{Span}
 use Rattle.ob_tree.specs.Members.{Listed, Member}

@@ -8,7 +8,7 @@
 //!       | a statement that has no blocks
 //! ```
 //!
-//! `else if` stands for a block with that `if`, which is open from its `if` up to the end of that statement.
+//! `else if` represents a block with that `if`, which is open from its `if` up to the end of that statement.
 
 ghost use Rattle.std.specs.Prelude.{◌≡◌, IfOk, IfErr};
 ghost use Rattle.ob_tree.specs.Stmts.{while_stmt, block_with, and_stmt, no_stmts};
@@ -103,7 +103,7 @@ fn repeated(turns: LoopPart, span: Span) -> Stmt
     }
 }
 
-/// The block that `else if` stands for.
+/// The block that `else if` represents.
 fn block_of_one(alloc: Global, statement: Stmt, end: Span) -> Result<Block, Halt>
     ensures ok { IfOk result (λ block. block_of block ≡ block_with (and_stmt (stmt_of statement) no_stmts) end) }
     ensures err { IfErr result (λ e. e ≡ Memory) }

@@ -1,4 +1,4 @@
--- What a row says of the tree whose tokens it reads, where what these stand for is in range.
+-- What a row says of the tree whose tokens it reads, where what these represent is in range.
 use Rattle.std.proofs.Common.{ℕ, ◌⊎◌, inl, inr, List, [], ◌∷◌, ◌++◌, map, IsTrue, subst}
 use Rattle.std.specs.List.{AllByRecursion}
 use Rattle.ob_base.specs.Names.{is_name}
@@ -10,7 +10,7 @@ use Rattle.ob_parser_spec.specs.Rows.{Row, Loaded, never, ◌⨟◌, token, toke
 use Rattle.ob_parser_spec.specs.Grammar.{tokens_of}
 use Rattle.ob_parser_laws.proofs.TokenValues.{IsInRange, AreInRange}
 
--- what the tokens that were read stand for is in range
+-- what the tokens that were read represent is in range
 abbrev pub ReadInRange : List Loaded → Type 0
 ReadInRange read = AllByRecursion (λ (l : Loaded). IsInRange l.token.kind) read
 

@@ -1,4 +1,4 @@
--- What the tokens of a text stand for is in range: its names are names, its numbers are of 64 bits, and its strings are
+-- What the tokens of a text represent is in range: its names are names, its numbers are of 64 bits, and its strings are
 -- texts.
 use Rattle.std.proofs.Common.{ℕ, zero, suc, ◌≡◌, ◌≤◌, ◌<◌, ◌^◌, nat_le, true, List, [], ◌∷◌, ◌++◌, length, IsTrue, sym, ap, subst, ◌∙◌, arith, append_assoc}
 use Rattle.std.specs.Prelude.{⊤}
@@ -18,7 +18,7 @@ use Rattle.ob_lexer.specs.Spelling.{IsString, IsSpelling, value_of_digits}
 use Rattle.ob_lexer.specs.Lexis.{Element, space, comment, token, IsElement, Piece, text_of, ArePieces, token_in, tokens_of, HasTokens}
 use Rattle.ob_lexer.proofs.StringTexts.{after_quote, content_is_text}
 
--- if a token of this kind is a name, a number or a string, then what it stands for is in range
+-- if a token of this kind is a name, a number or a string, then what it represents is in range
 abbrev pub IsInRange : TokenKind → Type 0
 IsInRange (kind.Name name) = IsTrue (is_name name)
 IsInRange (kind.Number number) = IsTrue (is_int number)

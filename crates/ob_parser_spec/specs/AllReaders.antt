@@ -21,9 +21,11 @@ all_refs room = read_ref 256 room
 unfoldable pub all_unary : ℕ → Reader Counted
 all_unary room = read_unary 256 room
 
+-- expressions, each with the count of the binary operators that are read in it
 abbrev pub all_counted : ℕ → Reader Counted
 all_counted room = read_row_1 all_unary room
 
+-- expressions without the count of their operators
 abbrev pub all_exprs : ℕ → Reader Expr
 all_exprs room = read_as uncounted (all_counted room)
 
@@ -31,12 +33,15 @@ all_exprs room = read_as uncounted (all_counted room)
 unfoldable pub all_branches : ℕ → Reader Branches
 all_branches room = read_after_if all_refs all_counted 256 room
 
+-- what stands after `while`: the condition and the block
 unfoldable pub all_loops : ℕ → Reader Loop
 all_loops room = read_after_while all_refs all_counted 256 room
 
+-- statements, as many as there are
 abbrev pub all_stmts : ℕ → Reader Stmts
 all_stmts room = read_stmts all_refs all_counted all_branches all_loops room
 
+-- blocks: statements in braces
 abbrev pub all_blocks : ℕ → Reader Block
 all_blocks room = read_block all_stmts room
 

@@ -37,9 +37,11 @@ with_maybe c (Some x) = with_step c x
 abbrev pub read_step : (Token → Option (Operator × Span)) → (ℕ → Reader Counted) → ℕ → ℕ → Reader Step
 read_step operator next room n = read_opened operator (n + 1) room next
 
+-- what is made of an operand and the steps after it
 abbrev pub steps_of : Counted × List Step → Counted
 steps_of parts = with_steps parts.0 parts.1
 
+-- what is made of an operand and at most one step after it
 abbrev pub maybe_of : Counted × Option Step → Counted
 maybe_of parts = with_maybe parts.0 parts.1
 

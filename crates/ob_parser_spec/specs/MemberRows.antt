@@ -52,6 +52,7 @@ abbrev pub fields_of_state : List Field → Row
 fields_of_state [] = either (sign Semicolon) (sign OpenBrace ⨟ sign CloseBrace)
 fields_of_state (f ∷ fs) = sign OpenBrace ⨟ each field (f ∷ fs) ⨟ sign CloseBrace
 
+-- the row of the grammar for a contract's member: a state, a field, a constructor or a transaction
 abbrev pub member : Member → Row
 -- "state" NAME (";" | "{" {field} "}")
 member (state_member part fields span) = spanning span (word word'.State ⨟ name part ⨟ fields_of_state fields)
@@ -91,6 +92,7 @@ abbrev pub of_interface : Bool → Option Named → Row → Row
 of_interface false None row = row
 of_interface main implements row = never
 
+-- the row of the grammar for a contract, or for an interface if the flag is true
 abbrev pub contract_kind : Bool → Contract → Row
 -- ["main"] ["asset"] "contract" NAME [generic] ["implements" named] "{" {member} "}"
 contract_kind false c = flag word'.Main c.main ⨟ flag word'.Asset c.asset ⨟ word word'.Contract ⨟ title c ⨟ maybe (λ of. word word'.Implements ⨟ named of) c.implements ⨟ body member c

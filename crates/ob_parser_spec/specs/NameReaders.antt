@@ -42,9 +42,11 @@ read_counted left room p right = read_as inner (read_both (read_opened (span_if 
 abbrev pub named_parts : (NamePart × Option Ref) × Span → Named
 named_parts parts = named_with parts.0.0.name parts.0.1 parts.1
 
+-- the reader of the reference in brackets after a name, which may be left out
 abbrev pub read_argument : (ℕ → Reader Ref) → ℕ → Reader (Option Ref)
 read_argument p room = read_maybe (on OpenBracket) (read_counted OpenBracket room p CloseBracket)
 
+-- the reader of a name, with the reference in brackets after it
 abbrev pub read_named : (ℕ → Reader Ref) → ℕ → Reader Named
 read_named p room = read_as named_parts (read_spanned (read_both (read_token name_if) (read_argument p room)))
 
@@ -52,6 +54,7 @@ read_named p room = read_as named_parts (read_spanned (read_both (read_token nam
 abbrev pub symbol_of_mode : Mode → Symbol
 symbol_of_mode m = a_word (word_of_mode m)
 
+-- a mode with its place
 abbrev pub mode_with_span : Mode → Span → Mode × Span
 mode_with_span m span = (m, span)
 
@@ -63,9 +66,11 @@ mode_if = one_if symbol_of_mode modes
 abbrev pub kinds_of_modes : List ℕ
 kinds_of_modes = kinds_among symbol_of_mode modes
 
+-- the permission that is a mode, at its place
 abbrev pub mode_perm : Mode × Span → PermNode
 mode_perm parts = perm'.Mode parts.0 parts.1
 
+-- the reader of a permission: a mode, or states with `|` between them
 abbrev pub read_perm : Reader PermNode
 read_perm = read_either kinds_of_modes (read_as mode_perm (read_token mode_if)) (read_as perm'.States (read_parted Bar (read_token name_if)))
 
@@ -73,6 +78,7 @@ read_perm = read_either kinds_of_modes (read_as mode_perm (read_token mode_if)) 
 abbrev pub ref_parts : Named × (Span × PermNode) → Ref
 ref_parts parts = ref_with parts.0 parts.1.1
 
+-- the reader of a reference, given the reader of the one in its brackets
 abbrev pub read_ref_with : (ℕ → Reader Ref) → ℕ → Reader Ref
 read_ref_with p room = read_as ref_parts (read_both (read_named p room) (read_both (read_token (span_if (a_sign At))) read_perm))
 

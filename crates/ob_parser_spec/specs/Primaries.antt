@@ -32,6 +32,7 @@ moved span (new_expr of args place) = new_expr of args span
 abbrev pub grouped : Counted × Span → Counted
 grouped parts = (moved parts.1 parts.0.0, 0)
 
+-- the reader of an expression in parentheses
 abbrev pub read_group : (ℕ → Reader Counted) → ℕ → Reader Counted
 read_group inner room = read_as grouped (read_spanned (read_counted sign'.OpenParen room inner sign'.CloseParen))
 
@@ -43,9 +44,11 @@ literal_of (kind.Word word'.True) span = Some (bool_expr true span, 0)
 literal_of (kind.Word word'.False) span = Some (bool_expr false span, 0)
 literal_of k span = None
 
+-- the literal that a token is, at its place
 abbrev pub literal_if : Token → Option Counted
 literal_if t = literal_of t.kind t.span
 
+-- the kinds of the literals
 abbrev pub literals : List ℕ
 literals = number a_number ∷ number a_text ∷ number (a_word word'.True) ∷ number (a_word word'.False) ∷ []
 
@@ -62,6 +65,7 @@ abbrev pub arguments_of : Option (List Expr) → Exprs
 arguments_of None = no_exprs
 arguments_of (Some es) = exprs es
 
+-- the reader of arguments with commas between them, of which there may be none
 abbrev pub read_arguments : Reader Counted → Reader Exprs
 read_arguments inner = read_as arguments_of (read_maybe expr_first (read_parted sign'.Comma (read_as uncounted inner)))
 
@@ -73,6 +77,7 @@ read_applied inner room = read_counted sign'.OpenParen room (λ r. read_argument
 abbrev pub new_of : (Span × (Named × Exprs)) × Span → Counted
 new_of parts = (new_expr parts.0.1.0 parts.0.1.1 parts.1, 0)
 
+-- the reader of a `new`, with its arguments
 abbrev pub read_new : (ℕ → Reader Ref) → (ℕ → Reader Counted) → ℕ → Reader Counted
 read_new refs inner room = read_as new_of (read_spanned (read_both (read_token (span_if (a_word word'.New))) (read_both (read_named refs room) (read_applied inner room))))
 
@@ -85,6 +90,7 @@ abbrev pub this_of : (Span × Option (Span × (NamePart × Exprs))) × Span → 
 this_of ((token, None), span) = (this_expr token span, 0)
 this_of ((token, Some (dot, (part, args))), span) = (call_expr (call_with (Some (subject'.This token)) part args) span, 0)
 
+-- the reader of an expression that begins with `this`: the word alone, or a call of it
 abbrev pub read_this : (ℕ → Reader Counted) → ℕ → Reader Counted
 read_this inner room = read_as this_of (read_spanned (read_both (read_token (span_if (a_word word'.This))) (read_maybe (on sign'.Dot) (read_method inner room))))
 
@@ -93,6 +99,7 @@ pub data Tail : Type 0 where
   method : NamePart → Exprs → Tail
   applied : Exprs → Tail
 
+-- what is made of the parts of: "." NAME "(" [expr {"," expr}] ")"
 abbrev pub method_of : Span × (NamePart × Exprs) → Tail
 method_of parts = method parts.1.0 parts.1.1
 
@@ -102,9 +109,11 @@ name_with_tail ((part, None), span) = (name_expr part span, 0)
 name_with_tail ((part, Some (method called args)), span) = (call_expr (call_with (Some (subject'.Name part)) called args) span, 0)
 name_with_tail ((part, Some (applied args)), span) = (call_expr (call_with None part args) span, 0)
 
+-- the reader of what stands after a name in a call
 abbrev pub read_tail : (ℕ → Reader Counted) → ℕ → Reader Tail
 read_tail inner room = read_either (on sign'.Dot) (read_as method_of (read_method inner room)) (read_as applied (read_applied inner room))
 
+-- the reader of an expression that begins with a name: the name alone, or a call
 abbrev pub read_name : (ℕ → Reader Counted) → ℕ → Reader Counted
 read_name inner room = read_as name_with_tail (read_spanned (read_both (read_token name_if) (read_maybe (number (a_sign sign'.Dot) ∷ number (a_sign sign'.OpenParen) ∷ []) (read_tail inner room))))
 

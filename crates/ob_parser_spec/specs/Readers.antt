@@ -66,6 +66,7 @@ abbrev pub name_of : TokenKind → Span → Option NamePart
 name_of (kind.Name n) span = Some (record { name = n; span = span })
 name_of k span = None
 
+-- the name that a token is, with its place
 abbrev pub name_if : Token → Option NamePart
 name_if t = name_of t.kind t.span
 
@@ -108,6 +109,7 @@ abbrev pub open_if : {A B : Type 0} → Option A → ℕ → ℕ → (ℕ → Re
 open_if (Some x) more room p t ts = cond (nat_le more room) (p (room - more) ts >>= (λ y rest. done (x, y) rest)) (deep (t ∷ ts))
 open_if None more room p t ts = stop (t ∷ ts)
 
+-- a token that opens so many, and after it a row in the room that is left
 abbrev pub read_opened : {A B : Type 0} → (Token → Option A) → ℕ → ℕ → (ℕ → Reader B) → Reader (A × B)
 read_opened f more room p [] = stop []
 read_opened f more room p (t ∷ ts) = open_if (f t) more room p t ts

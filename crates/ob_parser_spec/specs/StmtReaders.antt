@@ -38,6 +38,7 @@ value_local_of (kind.Word word'.Bool) span = Some (bool_local span)
 value_local_of (kind.Word word'.String) span = Some (text_local span)
 value_local_of k span = None
 
+-- the type `int`, `bool` or `string` of a local variable that a token is, with its place
 abbrev pub value_local_if : Token → Option Local
 value_local_if t = value_local_of t.kind t.span
 
@@ -45,6 +46,7 @@ value_local_if t = value_local_of t.kind t.span
 abbrev pub assigned_of : Span × (Expr × Span) → Expr
 assigned_of parts = parts.1.0
 
+-- the reader of the value in a declaration or an assignment, from `=` to `;`
 abbrev pub read_assigned : Reader Expr → Reader Expr
 read_assigned expr = read_as assigned_of (read_both (read_sign sign'.Equals) (read_both expr (read_sign sign'.Semicolon)))
 
@@ -52,6 +54,7 @@ read_assigned expr = read_as assigned_of (read_both (read_sign sign'.Equals) (re
 abbrev pub declare_of : (Local × (NamePart × Expr)) × Span → Stmt
 declare_of parts = declare_stmt parts.0.0 parts.0.1.0 parts.0.1.1 parts.1
 
+-- the reader of a declaration, given the readers of its type and of its value
 abbrev pub read_declare : Reader Local → Reader Expr → Reader Stmt
 read_declare local expr = read_as declare_of (read_spanned (read_both local (read_both (read_token name_if) (read_assigned expr))))
 
@@ -59,6 +62,7 @@ read_declare local expr = read_as declare_of (read_spanned (read_both local (rea
 abbrev pub assign_of : (NamePart × Expr) × Span → Stmt
 assign_of parts = assign_stmt parts.0.0 parts.0.1 parts.1
 
+-- the reader of an assignment to a name
 abbrev pub read_assign : Reader Expr → Reader Stmt
 read_assign expr = read_as assign_of (read_spanned (read_both (read_token name_if) (read_assigned expr)))
 
@@ -66,6 +70,7 @@ read_assign expr = read_as assign_of (read_spanned (read_both (read_token name_i
 abbrev pub stage_of : (NamePart × (Span × (NamePart × Expr))) × Span → Stmt
 stage_of parts = stage_stmt parts.0.0 parts.0.1.1.0 parts.0.1.1.1 parts.1
 
+-- the reader of an assignment to a field of a state, both of them named
 abbrev pub read_stage : Reader Expr → Reader Stmt
 read_stage expr = read_as stage_of (read_spanned (read_both (read_token name_if) (read_both (read_sign sign'.DoubleColon) (read_both (read_token name_if) (read_assigned expr)))))
 
@@ -73,6 +78,7 @@ read_stage expr = read_as stage_of (read_spanned (read_both (read_token name_if)
 abbrev pub given_of : NamePart × (Span × Expr) → GivenExpr
 given_of parts = record { field = parts.0; value = parts.1.1 }
 
+-- the reader of a field's name and the value that it is given
 abbrev pub read_given : Reader Expr → Reader GivenExpr
 read_given expr = read_as given_of (read_both (read_token name_if) (read_both (read_sign sign'.Equals) expr))
 
@@ -92,6 +98,7 @@ read_all_given expr = read_as list_of (read_maybe (on sign'.OpenParen) (read_enc
 abbrev pub change_of : (Span × (NamePart × (List GivenExpr × Span))) × Span → Stmt
 change_of parts = change_stmt parts.0.1.0 parts.0.1.1.0 parts.1
 
+-- the reader of a change of state, with the values that fields are given
 abbrev pub read_change : Reader Expr → Reader Stmt
 read_change expr = read_as change_of (read_spanned (read_both (read_sign sign'.Arrow) (read_both (read_token name_if) (read_both (read_all_given expr) (read_sign sign'.Semicolon)))))
 
@@ -99,6 +106,7 @@ read_change expr = read_as change_of (read_spanned (read_both (read_sign sign'.A
 abbrev pub called_name : (NamePart × Tail) × Span → Expr
 called_name parts = uncounted (name_with_tail ((parts.0.0, Some parts.0.1), parts.1))
 
+-- the reader of a call that begins with a name
 abbrev pub read_called_name : (ℕ → Reader Counted) → ℕ → Reader Expr
 read_called_name exprs room = read_as called_name (read_spanned (read_both (read_token name_if) (read_tail exprs room)))
 
@@ -106,6 +114,7 @@ read_called_name exprs room = read_as called_name (read_spanned (read_both (read
 abbrev pub called_this : (Span × (Span × (NamePart × Exprs))) × Span → Expr
 called_this parts = call_expr (call_with (Some (subject'.This parts.0.0)) parts.0.1.1.0 parts.0.1.1.1) parts.1
 
+-- the reader of a call of `this`
 abbrev pub read_called_this : (ℕ → Reader Counted) → ℕ → Reader Expr
 read_called_this exprs room = read_as called_this (read_spanned (read_both (read_word word'.This) (read_method exprs room)))
 
@@ -113,6 +122,7 @@ read_called_this exprs room = read_as called_this (read_spanned (read_both (read
 abbrev pub call_of : (Expr × Span) × Span → Stmt
 call_of parts = call_stmt parts.0.0 parts.1
 
+-- the reader of a statement that is a call or a `new`, given the reader of that expression
 abbrev pub read_call : Reader Expr → Reader Stmt
 read_call called = read_as call_of (read_spanned (read_both called (read_sign sign'.Semicolon)))
 
@@ -124,6 +134,7 @@ read_with_value w expr = read_spanned (read_both (read_word w) (read_both (read_
 abbrev pub return_of : (Span × (Option Expr × Span)) × Span → Stmt
 return_of parts = return_stmt parts.0.1.0 parts.1
 
+-- the reader of a `return`, with or without a value
 abbrev pub read_return : Reader Expr → Reader Stmt
 read_return expr = read_as return_of (read_with_value word'.Return expr)
 
@@ -131,6 +142,7 @@ read_return expr = read_as return_of (read_with_value word'.Return expr)
 abbrev pub revert_of : (Span × (Option Expr × Span)) × Span → Stmt
 revert_of parts = revert_stmt parts.0.1.0 parts.1
 
+-- the reader of a `revert`, with or without a value
 abbrev pub read_revert : Reader Expr → Reader Stmt
 read_revert expr = read_as revert_of (read_with_value word'.Revert expr)
 
@@ -138,6 +150,7 @@ read_revert expr = read_as revert_of (read_with_value word'.Revert expr)
 abbrev pub disown_of : (Span × (NamePart × Span)) × Span → Stmt
 disown_of parts = disown_stmt parts.0.1.0 parts.1
 
+-- the reader of a `disown`
 abbrev pub read_disown : Reader Stmt
 read_disown = read_as disown_of (read_spanned (read_both (read_word word'.Disown) (read_both (read_token name_if) (read_sign sign'.Semicolon))))
 
@@ -145,6 +158,7 @@ read_disown = read_as disown_of (read_spanned (read_both (read_word word'.Disown
 abbrev pub assert_of : (Span × (Subject × (Span × (PermNode × (Span × Span))))) × Span → Stmt
 assert_of parts = assert_stmt parts.0.1.0 parts.0.1.1.1.0 parts.1
 
+-- the reader of an assertion of the permission that a name or `this` has
 abbrev pub read_assert : Reader Stmt
 read_assert =
     read_as assert_of (read_spanned (read_both (read_sign sign'.OpenBracket) (read_both (read_token subject_if) (read_both (read_sign sign'.At)
@@ -183,6 +197,7 @@ pub data Question : Type 0 where
 abbrev pub tested_of : Subject × (Span × NamePart) → Question
 tested_of parts = tested parts.0 parts.1.1
 
+-- the reader of a test of whether a name or `this` is in a state
 abbrev pub read_tested : Reader Question
 read_tested = read_as tested_of (read_both (read_token subject_if) (read_both (read_word word'.In) (read_token name_if)))
 
@@ -194,6 +209,7 @@ read_question expr = read_ahead subjects (number (a_word word'.In) ∷ []) read_
 abbrev pub block_of : (Span × Stmts) × Span → Block
 block_of parts = block_with parts.0.1 parts.1
 
+-- the reader of a block: statements in braces that count
 abbrev pub read_block : (ℕ → Reader Stmts) → ℕ → Reader Block
 read_block body room = read_as block_of (read_both (read_opened (span_if (a_sign sign'.OpenBrace)) 1 room body) (read_sign sign'.CloseBrace))
 
@@ -210,6 +226,7 @@ if_with (asked condition) then otherwise span = if_stmt condition then otherwise
 abbrev pub if_of : (Span × Branches) × Span → Stmt
 if_of parts = if_with parts.0.1.0 parts.0.1.1.0 parts.0.1.1.1 parts.1
 
+-- the reader of an `if`, given the reader of what stands after that word
 abbrev pub read_if : (ℕ → Reader Branches) → ℕ → Reader Stmt
 read_if after room = read_as if_of (read_spanned (read_both (read_word word'.If) (after room)))
 
@@ -217,6 +234,7 @@ read_if after room = read_as if_of (read_spanned (read_both (read_word word'.If)
 abbrev pub chained_of : (Span × Branches) × Span → Block
 chained_of parts = block_with (and_stmt (if_of parts) no_stmts) (end_of_else parts.0.1.1.0 parts.0.1.1.1)
 
+-- the reader of the `if` after an `else`, which counts as a block does
 abbrev pub read_chained : (ℕ → Reader Branches) → ℕ → Reader Block
 read_chained after room = read_as chained_of (read_spanned (read_opened (span_if (a_word word'.If)) 1 room after))
 
@@ -229,6 +247,7 @@ abbrev pub else_of : Option Block → Else
 else_of None = no_else
 else_of (Some block) = else_with block
 
+-- the reader of an `else` and the block or `if` after it, which may be left out
 abbrev pub read_alternative : (ℕ → Reader Stmts) → (ℕ → Reader Branches) → ℕ → Reader Else
 read_alternative body after room =
     read_as else_of (read_maybe (number (a_word word'.Else) ∷ [])
@@ -238,6 +257,7 @@ read_alternative body after room =
 abbrev pub branches_of : Span × (Question × (Span × (Block × Else))) → Branches
 branches_of parts = (parts.1.0, parts.1.1.1)
 
+-- the reader of what stands after `if`: the question and the blocks
 abbrev pub read_branches : Reader Expr → (ℕ → Reader Stmts) → (ℕ → Reader Branches) → ℕ → Reader Branches
 read_branches expr body after room =
     read_as branches_of (read_both (read_sign sign'.OpenParen) (read_both (read_question expr) (read_both (read_sign sign'.CloseParen)
@@ -251,6 +271,7 @@ Loop = Expr × Block
 abbrev pub while_of : (Span × Loop) × Span → Stmt
 while_of parts = while_stmt parts.0.1.0 parts.0.1.1 parts.1
 
+-- the reader of a `while`, given the reader of what stands after that word
 abbrev pub read_while : (ℕ → Reader Loop) → ℕ → Reader Stmt
 read_while after room = read_as while_of (read_spanned (read_both (read_word word'.While) (after room)))
 
@@ -258,6 +279,7 @@ read_while after room = read_as while_of (read_spanned (read_both (read_word wor
 abbrev pub loop_of : Span × (Expr × (Span × Block)) → Loop
 loop_of parts = (parts.1.0, parts.1.1.1)
 
+-- the reader of what stands after `while`: the condition and the block
 abbrev pub read_loop : Reader Expr → (ℕ → Reader Stmts) → ℕ → Reader Loop
 read_loop expr body room = read_as loop_of (read_both (read_sign sign'.OpenParen) (read_both expr (read_both (read_sign sign'.CloseParen) (read_block body room))))
 

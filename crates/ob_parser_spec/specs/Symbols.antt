@@ -1,4 +1,4 @@
--- The symbols of the grammar: tokens without what they stand for.
+-- The symbols of the grammar: tokens without what they represent.
 use Rattle.std.specs.Prelude.{ℕ, List, [], ◌∷◌}
 use Rattle.ob_lexer.specs.declared.token.TokenKind.{TokenKind}
 use Rattle.ob_lexer.specs.declared.token.TokenKind.TheVariants as kind
@@ -55,6 +55,7 @@ number_of_word word'.Shared = 29
 number_of_word word'.Where = 30
 number_of_word word'.Is = 31
 
+-- the numbers of the signs follow those of the words
 abbrev pub number_of_sign : Sign → ℕ
 number_of_sign sign'.OpenBrace = 32
 number_of_sign sign'.CloseBrace = 33
@@ -86,6 +87,7 @@ number_of_sign sign'.Not = 58
 number_of_sign sign'.DoubleAmpersand = 59
 number_of_sign sign'.DoubleBar = 60
 
+-- the number of a symbol
 abbrev pub number : Symbol → ℕ
 number a_name = 0
 number a_number = 1

@@ -1,4 +1,4 @@
--- The set that a number stands for, after each operation on its bits.
+-- The set that a number represents, after each operation on its bits.
 use Rattle.std.proofs.Common.{◌≡◌, ℕ, zero, suc, ◌-◌, ◌*◌, ◌/◌, ◌%◌, ◌^◌, ◌<◌, ◌≤◌, min, max, ⊎_elim, Bool, true, false, not, ◌&&◌, ◌||◌, nat_lt, refl, sym, ap, ◌∙◌, arith, lt-ltb, le-ltb, ne_eqb, eq-eqb, eqb-true, w64, bit_and, bit_or}
 use Rattle.std.specs.Bool.{◌==◌}
 use Rattle.std.specs.Int.{bit_at, bit_not}
@@ -87,7 +87,7 @@ pub states_of-above : (a k i : ℕ) → a < 2 ^ k → k ≤ i → states_of a i 
 unfolding states_of
 states_of-above a k i small h = ap (λ x. x == 1) (bit_at_above a k i small h)
 
--- Two numbers that stand for one set are equal.
+-- Two numbers that represent one set are equal.
 pub same_mask : (a b : ℕ) → states_of a ≡ states_of b → a ≡ b
 unfolding states_of
 same_mask a b e = same_from_bits a b (λ i.

@@ -13,7 +13,7 @@ use Rattle.ob_perm.specs.Naming.{Names, IsNaming, called_in_interface, seen, sta
 use Rattle.ob_perm.proofs.SetLemmas.{any_below_at, any_below_from}
 use Rattle.ob_perm.proofs.FitLemmas.{subset_at, subset_from, subset_itself, fits-owned}
 
--- what a name that is found, or not, stands for
+-- what a name that is found, or not, denotes
 abbrev named : Option (Option StateId) → ℕ
 named name = option_map_or (λ (k : StateId). k.0) (option_flatten name) unnamed
 

@@ -1,4 +1,4 @@
--- What holds of the numbers that stand for sets and permissions.
+-- What holds of the numbers that represent sets and permissions.
 use Rattle.std.proofs.Common.{◌≡◌, ◌≢◌, ℕ, zero, suc, ◌+◌, ◌*◌, ◌^◌, ◌<◌, ◌≤◌, Bool, true, false, cond, ◌&&◌, nat_lt, refl, sym, ap, ◌∙◌, ⊎_elim, arith, bit_or, add-zero, add-one, lt-ltb, ltb-true, leb-true, eqb-true, one-mul, pow-suc, lit<}
 use Rattle.std.specs.Bool.{◌==◌}
 use Rattle.std.proofs.Math.Path.{fun_ext}
@@ -40,13 +40,13 @@ add_state n a x small is = ⊎_elim
     ∙ passing_same n a (states_of x) out is)
     (cases_Bool (a n))
 
--- The number of a set's states below a bound stands for these.
+-- The number of a set's states below a bound represents these.
 states_of-mask_below : (n : ℕ) (a : States) → states_of (mask_below n a) ≡ below_passing n a
 states_of-mask_below zero a = states_of-zero ∙ passing-none a
 states_of-mask_below (suc n) a =
     add_state n a (mask_below n a) (mask_below-lt n a) (states_of-mask_below n a) ∙ ap (λ k. below_passing k a) (add-one n)
 
--- A set whose states have numbers is what its number stands for.
+-- A set whose states have numbers is what its number represents.
 pub states_of-mask_of : (a : States) → IsNumbered a → states_of (mask_of a) ≡ a
 states_of-mask_of a numbered = states_of-mask_below states_max a ∙ fun_ext (λ i. ⊎_elim
     (λ in_a. and_from (nat_lt i states_max) (a i) (lt-ltb i states_max (numbered i in_a)) in_a ∙ sym in_a)
@@ -82,11 +82,11 @@ same_perm p q canonical_p canonical_q e = at p.mode p.states canonical_p q.mode 
     at Unowned s h Owned t k e = absurd cc
     at Unowned s h Shared t k e = absurd cc
 
--- The number that stands for a set is the set's.
+-- The number that represents a set is the set's.
 pub mask_is : (m : ℕ) (a : States) → IsNumbered a → states_of m ≡ a → m ≡ mask_of a
 mask_is m a numbered e = same_mask m (mask_of a) (e ∙ sym (states_of-mask_of a numbered))
 
--- What stands for a permission in canonical form is the permission's.
+-- What represents a permission in canonical form is the permission's.
 pub perm_is : (p : Perm) (q : Permission) → IsCanonical p → IsNumberedPermission q → permission_of p ≡ q → p ≡ perm_of q
 perm_is p q canonical numbered e =
     same_perm p (perm_of q) canonical (perm_of_canonical q) (e ∙ sym (permission_of-perm_of q numbered))

@@ -40,7 +40,7 @@ pub fn naming_laws()
         → IsTrue (matches p (for_contract names (for_interface names p))) }
 {}
 
-/// Each set of states has exactly one number that stands for it, and each permission exactly one in canonical form.
+/// Each set of states has exactly one number that represents it, and each permission exactly one in canonical form.
 pub fn mask_laws()
     ensures one_mask { (a b : ℕ) → states_of a ≡ states_of b → a ≡ b }
     ensures mask { (a : States) → IsNumbered a → states_of (mask_of a) ≡ a }

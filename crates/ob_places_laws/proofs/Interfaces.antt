@@ -61,7 +61,7 @@ is_naming interface c few own = record {
 pub naming_length : (interface c : Contract) → length (naming interface c) ≡ length c.states
 naming_length interface c = length-map c.states _
 
--- what a name that is found, or not, stands for
+-- what a name that is found, or not, denotes
 abbrev named : Option (Option StateId) → ℕ
 named name = option_map_or (λ (k : StateId). k.0) (option_flatten name) unnamed
 

@@ -1,4 +1,4 @@
--- What is known after two branches may stand for what is known after each.
+-- What is known after two branches may take the place of what is known after each.
 use Rattle.std.proofs.Common.{◌≡◌, Bool, true, false, not, ◌&&◌, ◌||◌, Option, Some, None, refl, sym, ap, subst, ◌∙◌, ◌⊎◌, inl, inr, ⊎_elim}
 use Rattle.std.specs.Prelude.{if◌then◌else◌}
 use Rattle.std.proofs.lemmas.Bool.{both_ways, and_parts, and_from, and_cases, or_parts, not-false}
@@ -9,18 +9,18 @@ use Rattle.ob_silica_places.specs.Known.{Known, known}
 use Rattle.ob_flow_spec.specs.Contexts.{is_asset, is_owned_asset, permission_on}
 use Rattle.ob_flow_spec.specs.Joining.{same_kind, same_mode, joined_known, agrees_with, join_loses}
 use Rattle.ob_places_laws.specs.Serving.{Allows}
-use Rattle.ob_places_laws.specs.Agreeing.{Agrees, StandsFor}
+use Rattle.ob_places_laws.specs.Agreeing.{Agrees, MayReplace}
 use Rattle.ob_places_laws.proofs.Permissions.{same_mode_owns, joined_owns, joined_mode_left, joined_mode_right}
 use Rattle.ob_places_laws.proofs.Serves.{joined_allows_left, joined_allows_right}
 use Rattle.ob_places_laws.proofs.Conversions.{same_kind_is, same_kind_itself}
 
 -- Standing for another.
 
-pub stands_itself : (table : ClassTable) (x : Option Known) → StandsFor table x x
+pub stands_itself : (table : ClassTable) (x : Option Known) → MayReplace table x x
 stands_itself table x = record { agrees = λ noted a. a; assets = λ e. e }
 
-pub stands_onward : (table : ClassTable) (x y z : Option Known) → StandsFor table x y → StandsFor table y z
-    → StandsFor table x z
+pub stands_onward : (table : ClassTable) (x y z : Option Known) → MayReplace table x y → MayReplace table y z
+    → MayReplace table x z
 stands_onward table x y z first second =
     record {
       agrees = λ noted a. second.agrees noted (first.agrees noted a);
@@ -28,14 +28,14 @@ stands_onward table x y z first second =
           (first.assets e);
     }
 
--- Nothing known may stand for what owns no asset.
-pub unset_stands : (table : ClassTable) (x : Option Known) → is_owned_asset table x ≡ false → StandsFor table x None
+-- Nothing known may take the place of what owns no asset.
+pub unset_stands : (table : ClassTable) (x : Option Known) → is_owned_asset table x ≡ false → MayReplace table x None
 unset_stands table x e =
     record { agrees = λ noted a. tt; assets = λ o. absurd (both_ways (is_owned_asset table x) e o) }
 
--- A weaker permission may stand for another, if an owner's of an asset stays an owner's.
+-- A weaker permission may take the place of another, if an owner's of an asset stays an owner's.
 pub weaker_stands : (table : ClassTable) (k : Kind) (p q : Permission) → ((r : Permission) → Allows p r → Allows q r)
-    → (owns p ≡ true → is_asset table k ≡ true → owns q ≡ true) → StandsFor table (Some (known k p)) (Some (known k q))
+    → (owns p ≡ true → is_asset table k ≡ true → owns q ≡ true) → MayReplace table (Some (known k p)) (Some (known k q))
 weaker_stands table k p q more keeps = record {
   agrees = agrees;
   assets = λ e. let parts = and_parts (owns p) (is_asset table k) e in
@@ -60,8 +60,8 @@ held_alike table x y e = ⊎_elim
 
 both_set : (table : ClassTable) (k : Kind) (p q : Permission)
     → (same_mode p q ≡ true) ⊎ ((owns p && is_asset table k ≡ false) × (owns q && is_asset table k ≡ false))
-    → StandsFor table (Some (known k p)) (Some (known k (joined p q)))
-    × StandsFor table (Some (known k q)) (Some (known k (joined p q)))
+    → MayReplace table (Some (known k p)) (Some (known k (joined p q)))
+    × MayReplace table (Some (known k q)) (Some (known k (joined p q)))
 both_set table k p q alike = (
   weaker_stands table k p (joined p q) (λ r a. joined_allows_left p q r a) (λ o a. owner_left alike o a),
   weaker_stands table k q (joined p q) (λ r a. joined_allows_right p q r a) (λ o a. owner_right alike o a),
@@ -82,11 +82,11 @@ both_set table k p q alike = (
 set_in_both : (table : ClassTable) (k l : Kind) (p q : Permission)
     → join_loses table (Some (known k p)) (Some (known l q)) ≡ false
     → (b : Bool) → same_kind k l ≡ b
-    → StandsFor table (Some (known k p)) (if b then Some (known k (joined p q)) else None)
-    × StandsFor table (Some (known l q)) (if b then Some (known k (joined p q)) else None)
+    → MayReplace table (Some (known k p)) (if b then Some (known k (joined p q)) else None)
+    × MayReplace table (Some (known l q)) (if b then Some (known k (joined p q)) else None)
 set_in_both table k l p q e true same =
-    subst (λ m. StandsFor table (Some (known k p)) (Some (known k (joined p q)))
-    × StandsFor table (Some (known m q)) (Some (known k (joined p q))))
+    subst (λ m. MayReplace table (Some (known k p)) (Some (known k (joined p q)))
+    × MayReplace table (Some (known m q)) (Some (known k (joined p q))))
     (same_kind_is k l same) (both_set table k p q (alike (held_alike table (known k p) (known l q) e)))
   where
     alike : ((same_kind k l ≡ true) × (same_mode p q ≡ true))
@@ -98,13 +98,13 @@ set_in_both table k l p q e false other = none (held_alike table (known k p) (kn
   where
     none : ((same_kind k l ≡ true) × (same_mode p q ≡ true))
         ⊎ ((owns p && is_asset table k ≡ false) × (owns q && is_asset table l ≡ false))
-        → StandsFor table (Some (known k p)) None × StandsFor table (Some (known l q)) None
+        → MayReplace table (Some (known k p)) None × MayReplace table (Some (known l q)) None
     none (inl m) = absurd (both_ways (same_kind k l) other m.0)
     none (inr n) = (unset_stands table (Some (known k p)) n.0, unset_stands table (Some (known l q)) n.1)
 
--- Where no owner of an asset is lost, what is known after both branches may stand for what each knew.
+-- Where no owner of an asset is lost, what is known after both branches may take the place of what each knew.
 pub joined_stands : (table : ClassTable) (x y : Option Known) → join_loses table x y ≡ false
-    → StandsFor table x (joined_known x y) × StandsFor table y (joined_known x y)
+    → MayReplace table x (joined_known x y) × MayReplace table y (joined_known x y)
 joined_stands table None None e = (stands_itself table None, stands_itself table None)
 joined_stands table None (Some y) e = (stands_itself table None, unset_stands table (Some y) e)
 joined_stands table (Some x) None e = (unset_stands table (Some x) e, stands_itself table None)

@@ -153,7 +153,7 @@ interface_states_at n i e = ⊎_elim
     (λ other. inr (eqb-true i unnamed other))
     (or_cases (all_states n i) (i == unnamed) e)
 
--- Sets and the numbers that stand for them.
+-- Sets and the numbers that represent them.
 
 mask_below_same : (n : ℕ) (a b : States) → ((i : ℕ) → i < n → a i ≡ b i) → mask_below n a ≡ mask_below n b
 mask_below_same zero a b h = refl
@@ -169,7 +169,7 @@ numbered_part a = λ i. nat_lt i states_max && a i
 numbered_part_is : (a : States) → IsNumbered (numbered_part a)
 numbered_part_is a i e = ltb-true i states_max (and_parts (nat_lt i states_max) (a i) e).0
 
--- The number of a set stands for its states that have a number.
+-- The number of a set represents its states that have a number.
 pub mask_states : (a : States) → states_of (mask_of a) ≡ (λ (i : ℕ). nat_lt i states_max && a i)
 mask_states a =
     ap states_of (mask_below_same states_max a (numbered_part a)

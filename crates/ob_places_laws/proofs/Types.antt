@@ -54,7 +54,7 @@ perm_is_on c p plain is = of_mode p.mode
     of_mode Shared = subset_from_among (all_states (length c.states)) (all_states (length c.states)) (λ i low e. e)
     of_mode Unowned = subset_from_among (all_states (length c.states)) (all_states (length c.states)) (λ i low e. e)
 
--- A permission and what stands for it in the code.
+-- A permission and what represents it in the code.
 pub perm_back : (c : Contract) (p : Perm) → IsPermOn c p → perm_of (permission_of p) ≡ p
 perm_back c p is = sym (perm_is p (permission_of p) is.canonical (perm_numbered c p is) refl)
 

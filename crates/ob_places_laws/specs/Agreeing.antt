@@ -13,7 +13,7 @@ Agrees None noted = ⊤
 Agrees (Some k) None = ⊥
 Agrees (Some k) (Some noted) = (noted.kind ≡ k.kind) × Allows k.permission noted.permission
 
--- The second may stand for the first: what agrees with the first agrees with it, and it owns an asset where that does.
-pub record StandsFor (table : ClassTable) (x y : Option Known) : Type 0 where
+-- The second may take the place of the first: what agrees with the first agrees with it, and it owns an asset where that does.
+pub record MayReplace (table : ClassTable) (x y : Option Known) : Type 0 where
   pub agrees : (noted : Option Known) → Agrees x noted → Agrees y noted
   pub assets : is_owned_asset table x ≡ true → is_owned_asset table y ≡ true

@@ -27,7 +27,7 @@ use Rattle.ob_invocation_spec.specs.Requests.{Argument, int_argument, bool_argum
 use Rattle.ob_request_run_laws.proofs.Lists.{none_is_some, some_is}
 use Rattle.ob_request_run_laws.specs.Laws.{AgreeOn}
 
--- A name stands for the same on both, and so does the object.
+-- A name denotes the same on both, and so does the object.
 pub record IsFound (c d : Content) (name : HandleName) : Type 0 where
   pub handle : handle_at d name ≡ handle_at c name
   pub object : (h : Handle) → handle_at c name ≡ Some h → object_at d.objects h.object ≡ object_at c.objects h.object

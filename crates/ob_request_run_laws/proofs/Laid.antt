@@ -79,7 +79,7 @@ pub record IsHeld (reads : List ReadItem) (h : Held) : Type 0 where
   pub read : (n : ℕ) (o : Object) → found n h.read ≡ Some o → Contains reads (object_item n)
   pub made : 0 < length h.made → Contains reads next_item
 
--- where nothing stands for a number it is the base's
+-- where nothing is laid at a number it is the base's
 laid_unread : (held : List (ℕ × Object)) (base : List Object) (n : ℕ) (x : Option Object) → found n held ≡ x → (x ≡ None) → slice_get (laid_from held 0 base) n ≡ slice_get base n
 laid_unread held base n x e f = laid_at held base n ∙ ap (λ y. option_map (λ o. unwrap_or y o) (slice_get base n)) (e ∙ f) ∙ same_option (slice_get base n)
 

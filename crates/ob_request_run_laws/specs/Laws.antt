@@ -50,7 +50,7 @@ WholeSlicesEnd =
 
 -- Two contents.
 
--- two contents agree on items: on objects, on what each name stands for, and on whether the handles are full
+-- two contents agree on items: on objects, on what each name denotes, and on whether the handles are full
 pub record AgreeOn (items : List ReadItem) (c d : Content) : Type 0 where
   pub objects : Agree items c.objects d.objects
   pub handles : (name : HandleName) → Contains items (handle_item name) → handle_at d name ≡ handle_at c name
@@ -79,7 +79,7 @@ pub record IsReadAs (items : List ReadItem) (h : Held) : Type 0 where
   pub objects : (n : ℕ) (o : Object) → found n h.read ≡ Some o → Contains items (object_item n)
   pub next : 0 < length h.made → Contains items next_item
 
--- What a request changes it has read: so is what it has of the content, and so is each name that stands for another handle or for none.
+-- What a request changes it has read: so is what it has of the content, and so is each name that denotes another handle or none.
 pub record HasRead (a : Answer) : Type 0 where
   pub held : IsReadAs a.reads a.held
   pub handles : AllByRecursion (λ (change : NameChange). Contains a.reads (handle_item change.0)) a.handles

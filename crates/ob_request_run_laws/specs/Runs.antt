@@ -10,7 +10,7 @@ use Rattle.ob_machine_steps.specs.Entries.{Phase}
 use Rattle.ob_machine_steps.specs.Runs.{world_of}
 use Rattle.ob_request_run_laws.specs.Held.{Held, nothing_held, held_by, laid_over}
 
--- what a name stands for once a request is done: this handle, or none
+-- what a name denotes once a request is done: this handle, or none
 abbrev pub NameChange : Type 0
 NameChange = HandleName × Option Handle
 
@@ -52,7 +52,7 @@ abbrev pub done_in : Reply → List NameChange → World → List ReadItem → R
 done_in reply handles w reads =
     answered (record { reply = reply; held = held_by w; handles = handles; taken = w.taken; reads = w.reads ++ reads })
 
--- a name stands for its handle
+-- a name denotes its handle
 abbrev pub put_of : NamedHandle → NameChange
 put_of h = (h.0, Some h.1)
 
@@ -67,7 +67,7 @@ unchanged reply taken reads =
 
 -- On a content.
 
--- handles where a name stands for this from now on
+-- handles where a name denotes this from now on
 abbrev pub changed_to : List NamedHandle → HandleName → Option Handle → List NamedHandle
 changed_to handles name None = without_handle handles name
 changed_to handles name (Some h) = put_handle handles (name, h)

@@ -3,7 +3,7 @@ use Rattle.std.proofs.Common.{◌≡◌, ◌⊎◌, inl, inr, Option, Some, None
 use Rattle.ob_base.specs.declared.fault.ProgramFault.{ProgramFault}
 use Rattle.ob_resolve_spec.specs.Declarations.{Program}
 use Rattle.ob_resolve_spec.specs.Faults.{HasNoFault, faults_of}
-use Rattle.ob_resolve_spec.specs.Least.{least_fault, least_from, LeastIs}
+use Rattle.ob_resolve_spec.specs.Least.{least_fault, least_from, IsLeastOrNone}
 use Rattle.ob_resolve_laws.proofs.LeastFacts.{least_fault_is}
 use Rattle.ob_resolve.specs.Resolving.{IsFirstFault}
 
@@ -11,10 +11,10 @@ some_injective : {A : Type 0} (a b : A) → Some a ≡ Some b → a ≡ b
 some_injective a b e = cc
 
 pub clean : (program : Program) (least : Option ProgramFault) → least ≡ least_fault program → least ≡ None → HasNoFault program
-clean program least is none = subst (LeastIs program) (sym is ∙ none) (least_fault_is program)
+clean program least is none = subst (IsLeastOrNone program) (sym is ∙ none) (least_fault_is program)
 
 pub told : (program : Program) (least : Option ProgramFault) (fault : ProgramFault) → least ≡ least_fault program → least ≡ Some fault → IsFirstFault program fault
-told program least fault is some = record { least = subst (LeastIs program) (sym is ∙ some) (least_fault_is program); first = sym is ∙ some }
+told program least fault is some = record { least = subst (IsLeastOrNone program) (sym is ∙ some) (least_fault_is program); first = sym is ∙ some }
 
 pub never_table_and_fault_lem : (program : Program) (fault : ProgramFault) → IsFirstFault program fault → ¬ (HasNoFault program)
 never_table_and_fault_lem program fault is none = let e : least_from None (faults_of program) ≡ None = ap (least_from None) none in let f = is.first in cc

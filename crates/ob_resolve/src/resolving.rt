@@ -5,7 +5,7 @@ ghost use Rattle.ob_tree.specs.MembersView.{contract_of, tree_of};
 ghost use Rattle.ob_resolve_spec.specs.Declarations.{Program};
 ghost use Rattle.ob_resolve_spec.specs.Faults.{HasNoFault};
 ghost use Rattle.ob_resolve_spec.specs.Generics.{HasNoGenerics};
-ghost use Rattle.ob_resolve_spec.specs.Least.{LeastIs, least_fault};
+ghost use Rattle.ob_resolve_spec.specs.Least.{IsLeastOrNone, least_fault};
 ghost use Rattle.ob_resolve_spec.specs.TableOf.{table_of};
 ghost use Rattle.ob_resolve.specs.Resolving.{IsFirstFault, HasClassTable};
 ghost use Rattle.ob_base.specs.TextErrors.{OnFault};

@@ -26,7 +26,7 @@ fn seen_name(around: &AroundBody<'_>, scope: &Scope, name: &[u8]) -> Result<Seen
     }
 }
 
-/// What a name in a body stands for, and its place.
+/// What a name in a body denotes, and its place.
 pub fn seen_at(around: &AroundBody<'_>, scope: &Scope, name: &NamePart) -> Result<SeenAt, Memory>
     ensures { IfOk result (λ seen. seen ≡ seen_at (around_of around.now) scope.now name.now) }
 {
@@ -36,7 +36,7 @@ pub fn seen_at(around: &AroundBody<'_>, scope: &Scope, name: &NamePart) -> Resul
     })
 }
 
-/// What `this` or a name in a body stands for, and its place.
+/// What `this` or a name in a body denotes, and its place.
 pub fn seen_subject(
     around: &AroundBody<'_>,
     scope: &Scope,

@@ -1,4 +1,4 @@
-//! The numbers of things in the class table. What stands for nothing has the number 0. A number past its type counts as
+//! The numbers of things in the class table. What denotes nothing has the number 0. A number past its type counts as
 //! want of memory: a program within its limits has none.
 ghost use Rattle.std.specs.Prelude.{◌≡◌, ◌+◌, Some, IfOk, if◌then◌else◌};
 ghost use Rattle.ob_tree.specs.MembersView.{contract_of};

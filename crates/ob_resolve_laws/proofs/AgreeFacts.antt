@@ -1,4 +1,4 @@
--- Written permissions that agree stand for one permission in the table.
+-- Written permissions that agree represent one permission in the table.
 use Rattle.std.proofs.Common.{◌≡◌, ℕ, zero, suc, ◌<◌, Bool, true, false, List, [], ◌∷◌, ◌++◌, map, length, refl, sym, ap, arith, ◌∙◌, ◌⊎◌, inl, inr}
 use Rattle.std.proofs.lemmas.Bool.Decides.{nat_tests}
 use Rattle.std.specs.Prelude.{◌||◌, nat_lt, ◌==◌, slice_get, if◌then◌else◌}

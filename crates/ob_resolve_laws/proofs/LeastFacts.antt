@@ -6,7 +6,7 @@ use Rattle.std.proofs.lemmas.Bool.Decides.{nat_tests}
 use Rattle.ob_base.specs.declared.fault.ProgramFault.{ProgramFault}
 use Rattle.ob_resolve_spec.specs.Declarations.{Program}
 use Rattle.ob_resolve_spec.specs.Faults.{faults_of, Comes}
-use Rattle.ob_resolve_spec.specs.Least.{is_before, least_from, least_fault, LeastIs}
+use Rattle.ob_resolve_spec.specs.Least.{is_before, least_from, least_fault, IsLeastOrNone}
 
 head_or_tail : {X : Type 0} (y : X) (ys : List X) (x : X) → Contains (y ∷ ys) x → (y ≡ x) ⊎ Contains ys x
 head_or_tail y ys x h = elim (Contains-append_cases (y ∷ []) ys x h) [ inl p ↦ inl (only p) | inr q ↦ inr q ]
@@ -82,11 +82,11 @@ least_with g (x ∷ xs) = by (λ k. least_with k xs) (is_before x g) refl
         )
 
 least_is_least : (program : Program) (fs : List ProgramFault) → faults_of program ≡ fs
-    → LeastIs program (least_from None fs)
+    → IsLeastOrNone program (least_from None fs)
 least_is_least program [] e = e
 least_is_least program (g ∷ fs) e =
     let r = least_with g fs in
-    subst (LeastIs program) (sym r.1) (record {
+    subst (IsLeastOrNone program) (sym r.1) (record {
       has = subst (λ gs. Contains gs r.0) (sym e)
           (elim r.2.one [
             | inl is ↦ subst (λ y. Contains (g ∷ fs) y) (sym is) (head_in g fs)
@@ -97,5 +97,5 @@ least_is_least program (g ∷ fs) e =
     })
 
 -- the computed fault is the least, and where there is none the program has no fault
-pub least_fault_is : (program : Program) → LeastIs program (least_fault program)
+pub least_fault_is : (program : Program) → IsLeastOrNone program (least_fault program)
 least_fault_is program = least_is_least program (faults_of program) refl

@@ -58,7 +58,7 @@ add_state n a x small is =
     ∙ passing_same n a (states_of x) out is)
     (cases_Bool (a n))
 
--- the number of a set's states below a bound stands for these
+-- the number of a set's states below a bound represents these
 states_of-mask_below : (n : ℕ) (a : States) → states_of (mask_below n a) ≡ below_passing n a
 states_of-mask_below zero a = states_of-zero ∙ passing-none a
 states_of-mask_below (suc n) a =

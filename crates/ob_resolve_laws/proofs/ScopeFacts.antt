@@ -190,19 +190,19 @@ name_known a w s here params result name g h = at (variable_named s name) refl
         field_seen a w s here params result name (field_found a.program a.own name f) e
     at (Some v) e = variable_seen a s here params result name v g e
 
--- what a name stands for: a variable, or a field where there is no variable of the name
-pub data StandsFor (a : AroundBody) (s : Scope) (name : Name) : Type 0 where
+-- what a name denotes: a variable, or a field where there is no variable of the name
+pub data Denotes (a : AroundBody) (s : Scope) (name : Name) : Type 0 where
   for_variable : (v : ScopeVariable) → variable_named s name ≡ Some v → seen_name a s name ≡ Local v.number
-      → StandsFor a s name
+      → Denotes a s name
   for_field : (n : ℕ) → variable_named s name ≡ None → seen_name a s name ≡ FieldSeen (record { 0 = n })
-      → StandsFor a s name
+      → Denotes a s name
 
-pub stands_for : (a : AroundBody) (s : Scope) (name : Name)
+pub denotes : (a : AroundBody) (s : Scope) (name : Name)
     → (is_among name (map (λ (v : ScopeVariable). v.name) s.variables) || is_among name (field_names a.own)) ≡ true
-    → StandsFor a s name
-stands_for a s name h = at (variable_named s name) refl
+    → Denotes a s name
+denotes a s name h = at (variable_named s name) refl
   where
-    at : (o : Option ScopeVariable) → variable_named s name ≡ o → StandsFor a s name
+    at : (o : Option ScopeVariable) → variable_named s name ≡ o → Denotes a s name
     at (Some v) e =
         for_variable v e (ap (λ o. option_map_or (λ (v : ScopeVariable). Local v.number) o
         (option_map_or (λ n. FieldSeen (record { 0 = n })) (number_of name (field_names a.own)) This)) e)

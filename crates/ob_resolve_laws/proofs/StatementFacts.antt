@@ -43,7 +43,7 @@ use Rattle.ob_resolve_laws.proofs.LookUps.{some_value, slice_get-map, among_numb
 use Rattle.ob_resolve_laws.proofs.TypeFacts.{true_from_not, name_means, some_and, in_table, perm_in_table}
 use Rattle.ob_resolve_laws.proofs.SignatureFacts.{field_found, same_field}
 use Rattle.ob_resolve_laws.proofs.KindFacts.{IsValueKind, IsKnownKind, as_local, serves_there}
-use Rattle.ob_resolve_laws.proofs.ScopeFacts.{GoodScope, by_number, no_number, good_with, good_past, by_number-with, this_known, KnownName, name_known, StandsFor, for_variable, for_field, stands_for}
+use Rattle.ob_resolve_laws.proofs.ScopeFacts.{GoodScope, by_number, no_number, good_with, good_past, by_number-with, this_known, KnownName, name_known, Denotes, for_variable, for_field, denotes}
 use Rattle.ob_resolve_laws.proofs.EndFacts.{ends_same}
 use Rattle.ob_resolve_laws.proofs.ExpressionFacts.{Here, frame, program, expr_fact, value_fact, KnownReference, reference_known}
 
@@ -88,10 +88,10 @@ target_known : (h : Here) (s : Scope) (name : NamePart) → GoodScope (program h
     → KnownTarget h s name.name
 target_known h s name g c d =
     let m = name_means a_variable (visible_at h.around s) name c in
-    at (stands_for h.around s name.name m) (name_known h.around h.world s h.world.number h.params h.result name.name g
+    at (denotes h.around s name.name m) (name_known h.around h.world s h.world.number h.params h.result name.name g
     m)
   where
-    at : StandsFor h.around s name.name → KnownName h.around s (frame h) name.name → KnownTarget h s name.name
+    at : Denotes h.around s name.name → KnownName h.around s (frame h) name.name → KnownTarget h s name.name
     at (for_field n e f) k = record { target = subst (IsTarget (frame h)) (sym f) tt; kind = rw e refl; known = k }
     at (for_variable v e f) k =
         let no_param : v.is_param ≡ false = (subst (λ o. Clean (assigns_variable o name.span)) e d).assigned_parameter in

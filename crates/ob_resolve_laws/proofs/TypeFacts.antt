@@ -43,7 +43,7 @@ meant : (a b : Bool) → not a ≡ false → (a && not b) ≡ false → b ≡ tr
 meant true b h k = true_from_not b k
 meant false b h k = absurd cc
 
--- a name stands for what is needed
+-- a name denotes what is needed
 pub name_means : (need : NameNeed) (v : Visible) (name : NamePart) → Clean (names_thing need v name)
     → means need v name.name ≡ true
 name_means need v name h = meant (is_visible v name.name) (means need v name.name) h.unknown_name h.wrong_kind

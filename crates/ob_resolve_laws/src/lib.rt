@@ -4,7 +4,7 @@
 ghost use Rattle.std.specs.Prelude.{All};
 ghost use Rattle.ob_resolve_spec.specs.Declarations.{Program};
 ghost use Rattle.ob_resolve_spec.specs.Faults.{HasNoFault};
-ghost use Rattle.ob_resolve_spec.specs.Least.{least_fault, LeastIs};
+ghost use Rattle.ob_resolve_spec.specs.Least.{least_fault, IsLeastOrNone};
 ghost use Rattle.ob_resolve_spec.specs.Shape.{HasShape};
 ghost use Rattle.ob_resolve_spec.specs.TableOf.{table_of};
 ghost use Rattle.ob_table_spec.specs.Conditions.{IsClassTable};
@@ -25,5 +25,5 @@ pub fn well_formed_bodies()
 
 /// The least fault that is computed site by site is the least of all, and none is computed where there is none.
 pub fn least_fault_is_least()
-    ensures { (program : Program) → LeastIs program (least_fault program) }
+    ensures { (program : Program) → IsLeastOrNone program (least_fault program) }
 {}

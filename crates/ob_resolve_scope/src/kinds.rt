@@ -1,4 +1,4 @@
-//! What names and expressions stand for in a body.
+//! What names and expressions denote in a body.
 ghost use Rattle.std.specs.Prelude.{◌≡◌, option_map, option_and_then};
 ghost use Rattle.std.specs.Option.{option_copied, option_map_or};
 ghost use Rattle.ob_tree.specs.NamesView.{named_of};

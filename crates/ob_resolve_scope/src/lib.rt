@@ -1,4 +1,4 @@
-//! What the names of a program stand for: its contracts and what they declare, by name, and the variables of a body.
+//! What the names of a program denote: its contracts and what they declare, by name, and the variables of a body.
 #![tactic(auto)]
 
 mod around;

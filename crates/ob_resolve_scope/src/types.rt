@@ -1,4 +1,4 @@
-//! The contracts of a program and their states, and what written types stand for.
+//! The contracts of a program and their states, and what written types denote.
 ghost use Rattle.std.specs.Prelude.{◌≡◌, false, length, map, flat_map, slice_get, is_some, option_map, option_and_then, IfOk, OnOk};
 ghost use Rattle.std.specs.List.{list_all};
 ghost use Rattle.std.specs.Option.{option_copied, option_map_or};

@@ -1,4 +1,4 @@
--- What a name stands for, by look-ups of its number.
+-- What a name denotes, by look-ups of its number.
 use Rattle.std.proofs.Common.{◌≡◌, ℕ, Bool, true, false, not, ◌&&◌, ◌||◌, List, [], ◌∷◌, length, get_or, drop, ◌<◌, ◌+◌, Option, Some, None, is_some, if◌then◌else◌, map, suc, refl, ap, sym, ◌∙◌, add-one, drop-cons, slice_get, option_and_then}
 use Rattle.std.specs.Prelude.{option_map}
 use Rattle.std.specs.Option.{option_map_or}

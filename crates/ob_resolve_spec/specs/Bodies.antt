@@ -25,7 +25,7 @@ use Rattle.ob_resolve_spec.specs.Scopes.{AroundBody, Scope, variable_named, loca
 use Rattle.ob_resolve_spec.specs.Operators.{unary_operator, resolved_between}
 use Rattle.ob_resolve_spec.specs.Numbers.{contract_id, state_id, field_id, transaction_id, perm_on}
 
--- what a name stands for: a variable first, then a field
+-- what a name denotes: a variable first, then a field
 abbrev pub seen_name : AroundBody → Scope → Name → Seen
 seen_name a s name =
     option_map_or (λ v. Local v.number) (variable_named s name)

@@ -1,4 +1,4 @@
--- Kinds: what a written type stands for, without its permission (Coblenz et al., TOPLAS 42(3), 2020, "Types"; the Obsidian
+-- Kinds: what a written type denotes, without its permission (Coblenz et al., TOPLAS 42(3), 2020, "Types"; the Obsidian
 -- language documentation, "Types").
 use Rattle.std.specs.Prelude.{ℕ, Bool, true, false, not, ◌||◌, nat_eq, List, map, Option, None, option_and_then, if◌then◌else◌}
 use Rattle.std.specs.Option.{option_map_or}

@@ -23,6 +23,6 @@ abbrev pub least_fault : Program → Option ProgramFault
 least_fault program = least_from None (faults_of program)
 
 -- it is the least fault, or there is none
-abbrev pub LeastIs : Program → Option ProgramFault → Type 0
-LeastIs program None = HasNoFault program
-LeastIs program (Some f) = IsLeast program f
+abbrev pub IsLeastOrNone : Program → Option ProgramFault → Type 0
+IsLeastOrNone program None = HasNoFault program
+IsLeastOrNone program (Some f) = IsLeast program f

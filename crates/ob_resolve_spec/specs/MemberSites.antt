@@ -92,7 +92,7 @@ abbrev pub body_of_params_sites : Program → Contract → InferredKind → List
 body_of_params_sites program own result params body =
     body_sites (around program own result) (scope_of_params program params) body
 
--- one member: what its names and types stand for, and its body
+-- one member: what its names and types denote, and its body
 abbrev pub member_sites : Program → Contract → Member → List Site
 member_sites program own (state_member name fields span) =
     flat_map (λ f. is_inside_state f.available f.name.span ∷ field_sites program own f) fields

@@ -1,4 +1,4 @@
--- The numbers of things in the class table. What stands for nothing gets some number: no such table is handed out.
+-- The numbers of things in the class table. What denotes nothing gets some number: no such table is handed out.
 use Rattle.std.specs.Prelude.{ℕ, ◌+◌, false, List, map, length, Option, unwrap_or, slice_get, if◌then◌else◌}
 use Rattle.std.specs.Option.{option_map_or}
 use Rattle.ob_base.specs.declared.id.ContractId.{ContractId}

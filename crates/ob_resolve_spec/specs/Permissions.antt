@@ -1,5 +1,5 @@
 -- Permissions as they are written, by the names of states (Coblenz et al., TOPLAS 42(3), 2020, "Permissions"; what an
--- interface's `Owned` stands for is this project's own).
+-- interface's `Owned` denotes is this project's own).
 use Rattle.std.specs.Prelude.{Bool, true, false, not, ◌&&◌, List, [], ◌∷◌, ◌++◌, map, Option, Some, None, if◌then◌else◌}
 use Rattle.std.specs.List.{list_all}
 use Rattle.ob_base.specs.declared.permission.Mode.TheVariants.{Owned, Shared, Unowned}

@@ -1,4 +1,5 @@
--- What each tree of a text is like, and its plain data doesn't say: names are names, a number is one of 64 bits and a
+-- What each tree of a text, or of its instances, is like, and its plain data doesn't say: names are names, but a contract's, which
+-- may be printed, is a text; a number is one of 64 bits and a
 -- string is a text of at most 1,024 bytes, an operator has as many operands as it needs, and an interface has states
 -- and heads alone (the Obsidian language documentation, "Interfaces").
 use Rattle.std.specs.Prelude.{◌≡◌, Bool, true, false, List, [], ◌∷◌, Option, Some, None, IsTrue, IsSome, IfSome, All, ⊤}

@@ -23,9 +23,9 @@ pub data Site : Type 0 where
   is_main : List Contract → Span → Site
   -- a name stands where there is a need, with what is visible there
   names_thing : NameNeed → Visible → NamePart → Site
-  -- a name stands for a state of the contract
+  -- a name denotes a state of the contract
   names_state : Contract → NamePart → Site
-  -- a name stands for a field of the contract
+  -- a name denotes a field of the contract
   names_field : Contract → NamePart → Site
   -- a field inside a state has these states after `available in`
   is_inside_state : List NamePart → Span → Site

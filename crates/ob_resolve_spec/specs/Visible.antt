@@ -1,4 +1,4 @@
--- What names stand for at a place (this project's own).
+-- What names denote at a place (this project's own).
 use Rattle.std.specs.Prelude.{Bool, false, not, ◌||◌, List, [], is_some}
 use Rattle.std.specs.Option.{option_map_or}
 use Rattle.ob_tree.specs.Members.{Contract}
@@ -38,13 +38,13 @@ pub data NameNeed : Type 0 where
   -- a transaction that isn't private, after a dot
   a_public_transaction : NameNeed
 
--- whether the name stands for something that is visible
+-- whether the name denotes something that is visible
 abbrev pub is_visible : Visible → Name → Bool
 is_visible v name =
     is_some (number_of_contract v.program name) || is_among name (state_names v.own) || is_among name (field_names v.own)
     || is_some (transaction_named v.own name) || is_among name v.variables
 
--- whether the name stands for what is needed
+-- whether the name denotes what is needed
 abbrev pub means : NameNeed → Visible → Name → Bool
 means a_contract v name = is_some (number_of_contract v.program name)
 means an_interface v name = option_map_or (λ c. c.interface) (contract_of_name v.program name) false

@@ -1,6 +1,6 @@
 //! The kinds of values.
 
-/// What a written type stands for, without its permission (Coblenz et al., TOPLAS 42(3), 2020, "Types"; the Obsidian
+/// What a written type denotes, without its permission (Coblenz et al., TOPLAS 42(3), 2020, "Types"; the Obsidian
 /// language documentation, "Types").
 #[derive(Clone, Copy, PartialEq, Eq)]
 pub enum InferredKind {

@@ -5,7 +5,7 @@ use ob_base::Text;
 /// A local or a parameter (the Obsidian language documentation, "Statements"; its number is this project's own).
 #[derive(Drop)]
 pub struct ScopeVariable {
-    /// The name that stands for it in the body.
+    /// The name that denotes it in the body.
     pub name: Text,
     /// The kind of its value.
     pub of: InferredKind,

@@ -10,7 +10,7 @@ use Rattle.ob_store_spec.proofs.Leading.{one_store}
 use Rattle.ob_serve.specs.Crash.{AfterFirst}
 use Rattle.ob_serve.specs.Served.{IsStored}
 use Rattle.ob_serve.specs.Session.{SessionItem, items_from, state_after, replies}
-use Rattle.ob_serve.specs.Standing.{StandsForStore}
+use Rattle.ob_serve.specs.Standing.{RepresentsStore}
 use Rattle.ob_serve.specs.declared.serving.Served.TheVariants as ended
 use Rattle.ob_words.specs.Asked.{Asked}
 use Rattle.ob_run.specs.Corollary.{serving, IsObservable, ServesAll, IsUndisturbed, ServesObservable}
@@ -83,11 +83,11 @@ module _ (words : Option Asked) (old new : OutsideView) (given : IsObservable wo
       replied = lines_replied (source_items asked h.table h.bodies) h.start h.ends.lines lines h.ends.k h.ends.given h.ends.answered h.ends.given_is is_input
 
       at_end : (c : List ℕ)
-          → AfterFirst (StandsForStore (program_with h.table h.bodies) (Some area_bytes)) h.start (items_from (source_items asked h.table h.bodies) h.start h.ends.lines) (IsStored ended.Done h.ends.k) c
+          → AfterFirst (RepresentsStore (program_with h.table h.bodies) (Some area_bytes)) h.start (items_from (source_items asked h.table h.bodies) h.start h.ends.lines) (IsStored ended.Done h.ends.k) c
           → IsStoreOf (program_with h.table h.bodies) area_bytes c (state_after h.start (items_from (source_items asked h.table h.bodies) h.start lines))
       at_end c after =
           subst (λ (ls : List (List ℕ)). IsStoreOf (program_with h.table h.bodies) area_bytes c (state_after h.start (items_from (source_items asked h.table h.bodies) h.start ls))) is_input
-          (after_all (StandsForStore (program_with h.table h.bodies) (Some area_bytes)) h.start (items_from (source_items asked h.table h.bodies) h.start h.ends.lines) h.ends.k c h.ends.answered after)
+          (after_all (RepresentsStore (program_with h.table h.bodies) (Some area_bytes)) h.start (items_from (source_items asked h.table h.bodies) h.start h.ends.lines) h.ends.k c h.ends.answered after)
 
   -- of the given program, and from the given store on
   served : ServesProgram asked given.text (devices old) (devices new) ended.Done → Serves given.table given.bodies given.start

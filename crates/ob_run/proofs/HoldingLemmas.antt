@@ -31,7 +31,7 @@ use Rattle.ob_serve.specs.Items.{by_machine, by_source, items_of_line, items_of}
 use Rattle.ob_serve.specs.Kept.{says_done, IsSoundFor, AreKept}
 use Rattle.ob_serve.specs.Served.{Devices, Ends, ReadsAll, SpeaksOf, IsCause}
 use Rattle.ob_serve.specs.Session.{SessionItem, items_from, state_after, replies, bytes_of}
-use Rattle.ob_serve.specs.Standing.{StandsForStore, source_program}
+use Rattle.ob_serve.specs.Standing.{RepresentsStore, source_program}
 use Rattle.ob_serve.specs.declared.limits.Limits.{Limits}
 use Rattle.ob_serve.specs.declared.serving.Served.{Served}
 use Rattle.ob_serve.specs.declared.serving.Served.TheVariants as ended
@@ -147,10 +147,10 @@ module _ (n : ℕ) (old new : Devices) (left : old.input.left ≡ Some (trial_li
 
 -- the disk is refused for no cause after a session by the code
 pub session_unrefused : (code : Image) (limits : Limits) (area : ℕ) (store : Store) (old new : Devices) (served : Served) → area_of_store store ≡ Some area
-    → Ends (items_of_line (by_machine code limits (area_of_store store))) (StandsForStore (program_of code) (area_of_store store)) (state_of store) old new served
+    → Ends (items_of_line (by_machine code limits (area_of_store store))) (RepresentsStore (program_of code) (area_of_store store)) (state_of store) old new served
     → IsUnrefused (program_of code) area new.disk
 session_unrefused code limits area store old new served area_is ends c reads r refused =
-    let stood = (subst (λ (a : Option ℕ). Ends (items_of_line (by_machine code limits a)) (StandsForStore (program_of code) a) (state_of store) old new served) area_is ends).stored.content c reads in
+    let stood = (subst (λ (a : Option ℕ). Ends (items_of_line (by_machine code limits a)) (RepresentsStore (program_of code) a) (state_of store) old new served) area_is ends).stored.content c reads in
     never_both (program_of code) area c r _ refused stood.2
 
 module _ (program : SilicaProgram) (code : Image) (sound : IsSoundFor program code) (limits : Limits) (area n : ℕ) where
@@ -162,20 +162,20 @@ module _ (program : SilicaProgram) (code : Image) (sound : IsSoundFor program co
 
   abbrev pub EndsSession : Store → Devices → Devices → Served → Type 0
   EndsSession store old new served =
-      Ends (items_of_line (by_source served_program code limits (area_of_store store))) (StandsForStore served_program (area_of_store store)) (state_of store) old new served
+      Ends (items_of_line (by_source served_program code limits (area_of_store store))) (RepresentsStore served_program (area_of_store store)) (state_of store) old new served
 
   -- a session that was read to its end
   pub done_session : (store : Store) (old new : Devices) (served : Served) → area_of_store store ≡ Some area → served ≡ ended.Done → EndsSession store old new served
-      → Ends line_items (StandsForStore served_program (Some area)) (state_of store) old new ended.Done
+      → Ends line_items (RepresentsStore served_program (Some area)) (state_of store) old new ended.Done
   done_session store old new served area_is done ends =
-      subst (λ (e : Served). Ends line_items (StandsForStore served_program (Some area)) (state_of store) old new e) done
-      (subst (λ (a : Option ℕ). Ends (items_of_line (by_source served_program code limits a)) (StandsForStore served_program a) (state_of store) old new served) area_is ends)
+      subst (λ (e : Served). Ends line_items (RepresentsStore served_program (Some area)) (state_of store) old new e) done
+      (subst (λ (a : Option ℕ). Ends (items_of_line (by_source served_program code limits a)) (RepresentsStore served_program a) (state_of store) old new served) area_is ends)
 
   module _ (store after : Store) (old new : Devices) (bytes c : List ℕ) (counts : Counts)
       (begins : IsStoreOf (program_of code) area [] (state_of store))
       (at_rest : IsStoreAtRest (table_of_image code) (content_of (kept_of store)))
       (left : old.input.left ≡ Some (trial_lines n)) (unwritten : old.output.written ≡ Some []) (written : new.output.written ≡ Some bytes)
-      (ends : Ends line_items (StandsForStore served_program (Some area)) (state_of store) old new ended.Done)
+      (ends : Ends line_items (RepresentsStore served_program (Some area)) (state_of store) old new ended.Done)
       (reads : Reads new.disk c) (opened : IsStoreOf (program_of code) area c (state_of after))
       (counted : (rs : List Reply) → bytes ≡ lines_of_replies rs → CountsReplies rs (length (state_of after).content.objects) (length (state_of after).content.handles) counts) where
     abbrev items : List (SessionItem StoreState)

@@ -36,7 +36,7 @@ use Rattle.ob_store_spec.specs.Stores.{StoreProgram, StoreState, IsStoreOf}
 use Rattle.ob_serve.specs.Items.{by_source, items_of_line}
 use Rattle.ob_serve.specs.Kept.{IsServable, IsSoundFor, AreLimits, KeepsSessions, KeepsOrders}
 use Rattle.ob_serve.specs.Served.{Devices, SpeaksOf, Ends, IsCause}
-use Rattle.ob_serve.specs.Standing.{StandsForStore, source_program}
+use Rattle.ob_serve.specs.Standing.{RepresentsStore, source_program}
 use Rattle.ob_serve.specs.declared.limits.Limits.{Limits}
 use Rattle.ob_serve.specs.declared.serving.Served.{Served}
 use Rattle.ob_serve.specs.declared.serving.Served.TheVariants as ended
@@ -153,7 +153,7 @@ module _ (table : ClassTable) (bodies : List SilicaBody) (code : Image) (compile
 
     -- a session of the program's code ended
     abbrev EndsBy : Image → Option ℕ → StoreState → Devices → Devices → Served → Type 0
-    EndsBy i area start old new served = Ends (line_items i area) (StandsForStore (source_program table i) area) start old new served
+    EndsBy i area start old new served = Ends (line_items i area) (RepresentsStore (source_program table i) area) start old new served
 
     -- a session over a store in memory
     pub serves_in_memory : (name : List ℕ) (old new : Devices) (served : Served) (store : Store) → content_of (kept_of store) ≡ empty_content → area_of_store store ≡ None → state_of store ≡ store_in_memory
@@ -167,7 +167,7 @@ module _ (table : ClassTable) (bodies : List SilicaBody) (code : Image) (compile
       start = store_in_memory;
       begins = refl;
       ends = in_memory;
-      crash = survives (line_items (image_of table bodies) None) (StandsForStore (program_with table bodies) None) store_in_memory old new served in_memory;
+      crash = survives (line_items (image_of table bodies) None) (RepresentsStore (program_with table bodies) None) store_in_memory old new served in_memory;
       kept = kept_always;
       ordered = ordered_always;
       spared = λ none. (quiet, sure);
@@ -199,7 +199,7 @@ module _ (table : ClassTable) (bodies : List SilicaBody) (code : Image) (compile
     }
       where
         stands : StoreState → List ℕ → Type 0
-        stands = StandsForStore (program_with table bodies) (Some area_bytes)
+        stands = RepresentsStore (program_with table bodies) (Some area_bytes)
 
         from_mid : EndsBy (image_of table bodies) (Some area_bytes) (state_of store) mid new served
         from_mid = subst (λ (i : Image). EndsBy i (Some area_bytes) (state_of store) mid new served) emitted

@@ -16,7 +16,7 @@ use Rattle.ob_serve.specs.Items.{by_source, items_of_line}
 use Rattle.ob_serve.specs.Kept.{KeepsSessions, KeepsOrders}
 use Rattle.ob_serve.specs.Session.{SessionItem, items_from}
 use Rattle.ob_serve.specs.Served.{Devices, Ends}
-use Rattle.ob_serve.specs.Standing.{StandsForStore}
+use Rattle.ob_serve.specs.Standing.{RepresentsStore}
 use Rattle.ob_serve.specs.declared.limits.Limits.{Limits}
 use Rattle.ob_serve.specs.declared.serving.Served.{Served}
 use Rattle.ob_serve.specs.declared.serving.Served.TheVariants.{DiskFault}
@@ -68,7 +68,7 @@ source_items asked table bodies =
 
 -- bytes of a disk represent the store of a command's session
 abbrev pub StandsOnDisk : Command → ClassTable → List SilicaBody → StoreState → List ℕ → Type 0
-StandsOnDisk command table bodies = StandsForStore (program_with table bodies) (area_for command)
+StandsOnDisk command table bodies = RepresentsStore (program_with table bodies) (area_for command)
 
 -- No item of any lines goes wrong; after each the store is at rest, and each stored asset that was never shared nor disowned has exactly
 -- one owner; and a request or line that is refused or aborted changes nothing.

@@ -20,17 +20,17 @@ use Rattle.ob_store.specs.Committing.{IsReady, StandsBeforeOrAfter}
 use Rattle.ob_store.specs.declared.store.Store.{Store}
 use Rattle.ob_store.specs.declared.store.Prepared.{Prepared}
 use Rattle.ob_store.proofs.Standing.{stores_stand}
-use Rattle.ob_serve.specs.Standing.{StandsForStore}
+use Rattle.ob_serve.specs.Standing.{RepresentsStore}
 use Rattle.ob_serve.specs.Stops.{LineReader, IsStop, CommitsTo, LeadsOn}
 use Rattle.ob_serve.specs.declared.serving.Served.{Served}
 use Rattle.ob_serve.specs.declared.serving.Served.TheVariants as ended
 
 -- a disk and each image of it represent the store
 pub stands_through : (program : StoreProgram) (store : Store) (v : DiskView) → StandsOn program store v → IsStoreAtRest program.table (content_of (kept_of store))
-    → Throughout v (StandsForStore program (area_of_store store) (state_of store))
+    → Throughout v (RepresentsStore program (area_of_store store) (state_of store))
 stands_through program store v stands rests = by_area (area_of_store store) refl
   where
-    by_area : (area : Option ℕ) → area_of_store store ≡ area → Throughout v (StandsForStore program area (state_of store))
+    by_area : (area : Option ℕ) → area_of_store store ≡ area → Throughout v (RepresentsStore program area (state_of store))
     by_area None is = record { content = λ c reads. tt; images = λ c left. tt }
     by_area (Some size) is = stores_stand program store size v is stands rests
 
@@ -46,7 +46,7 @@ some_leads program after store prepared p some leads = subst (LeadsOn program st
 
 -- a disk on which nothing was done
 pub quiet_crash : (program : StoreProgram) (after : StoreState) (store : Store) (v : DiskView) → StandsOn program store v → IsStoreAtRest program.table (content_of (kept_of store))
-    → During v v (λ c. StandsForStore program (area_of_store store) (state_of store) c ⊎ StandsForStore program (area_of_store store) after c)
+    → During v v (λ c. RepresentsStore program (area_of_store store) (state_of store) c ⊎ RepresentsStore program (area_of_store store) after c)
 quiet_crash program after store v stands rests = during_none v _ (throughout_to v _ _ (stands_through program store v stands rests) (λ c stood. inl stood))
 
 -- a store for which room was made is the same one
@@ -73,25 +73,25 @@ module _ (program : StoreProgram) (after : StoreState) (store same : Store) (p :
   -- a crash leaves the store before or after
   pub crash_leaves : (old new : DiskView) → (area_of_store same ≡ None → IsUntouched old new)
       → ((size : ℕ) → area_of_store same ≡ Some size → During old new (StandsBeforeOrAfter program size (state_of same) (content_with (kept_of same) (delta_prepared p))))
-      → During old new (λ c. StandsForStore program (area_of_store store) (state_of store) c ⊎ StandsForStore program (area_of_store store) after c)
+      → During old new (λ c. RepresentsStore program (area_of_store store) (state_of store) c ⊎ RepresentsStore program (area_of_store store) after c)
   crash_leaves old new none some = by_area (area_of_store store) refl
     where
       to_after : (size : ℕ) (c : List ℕ) → area_of_store store ≡ Some size → StandsBeforeOrAfter program size (state_of same) (content_with (kept_of same) (delta_prepared p)) c
-          → StandsForStore program (Some size) (state_of store) c ⊎ StandsForStore program (Some size) after c
-      to_after size c is (inl before) = inl (subst (λ (s : StoreState). StandsForStore program (Some size) s c) state before)
+          → RepresentsStore program (Some size) (state_of store) c ⊎ RepresentsStore program (Some size) after c
+      to_after size c is (inl before) = inl (subst (λ (s : StoreState). RepresentsStore program (Some size) s c) state before)
       to_after size c is (inr later) =
-          inr (subst (λ (s : StoreState). StandsForStore program (Some size) s c) (one_store later.0 after (sym later.1 ∙ ap (λ (a : Option ℕ). settled program a (state_of same) (content_with (kept_of same) (delta_prepared p))) (sym (area ∙ is)) ∙ settles_again)) later.2)
+          inr (subst (λ (s : StoreState). RepresentsStore program (Some size) s c) (one_store later.0 after (sym later.1 ∙ ap (λ (a : Option ℕ). settled program a (state_of same) (content_with (kept_of same) (delta_prepared p))) (sym (area ∙ is)) ∙ settles_again)) later.2)
 
-      by_area : (a : Option ℕ) → area_of_store store ≡ a → During old new (λ c. StandsForStore program a (state_of store) c ⊎ StandsForStore program a after c)
+      by_area : (a : Option ℕ) → area_of_store store ≡ a → During old new (λ c. RepresentsStore program a (state_of store) c ⊎ RepresentsStore program a after c)
       by_area None is = during_to old new _ _ (untouched_during old new (none (area ∙ is))) (λ c may. inl tt)
       by_area (Some size) is = during_to old new _ _ (some size (area ∙ is)) (λ c stood. to_after size c is stood)
 
 -- a disk represents a store, said of its place and of what it is
 pub stands_now : (program : StoreProgram) (store : Store) (v : DiskView) (area : Option ℕ) (s : StoreState) → area_of_store store ≡ area → state_of store ≡ s → StandsOn program store v
-    → IsStoreAtRest program.table (content_of (kept_of store)) → Throughout v (StandsForStore program area s)
+    → IsStoreAtRest program.table (content_of (kept_of store)) → Throughout v (RepresentsStore program area s)
 stands_now program store v area s in_area is stands rests =
-    subst (λ (t : StoreState). Throughout v (StandsForStore program area t)) is
-    (subst (λ (a : Option ℕ). Throughout v (StandsForStore program a (state_of store))) in_area (stands_through program store v stands rests))
+    subst (λ (t : StoreState). Throughout v (RepresentsStore program area t)) is
+    (subst (λ (a : Option ℕ). Throughout v (RepresentsStore program a (state_of store))) in_area (stands_through program store v stands rests))
 
 -- a disk of which no byte changed
 pub quiet_stands : (mid new : DiskView) (P : List ℕ → Type 0) → During mid new (May mid) → Throughout mid P → Throughout new P

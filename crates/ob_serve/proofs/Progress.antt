@@ -24,7 +24,7 @@ use Rattle.ob_serve.specs.Served.{Devices, IsToldAs, ReadsSome, SpeaksOf, IsAnsw
 use Rattle.ob_serve.specs.Items.{by_machine, items_of_line}
 use Rattle.ob_serve.specs.declared.limits.Limits.{Limits}
 use Rattle.ob_serve.specs.Serving.{Moment, IsServing, items_shown, StaysIn, stands_where, Answered, HasFault, Stopped, Answers}
-use Rattle.ob_serve.specs.Standing.{StandsForStore}
+use Rattle.ob_serve.specs.Standing.{RepresentsStore}
 use Rattle.ob_serve.specs.Stops.{LineReader, ReadsLine, ReadsPart, IsStop}
 use Rattle.ob_serve.specs.declared.serving.Served.{Served}
 use Rattle.ob_serve.specs.declared.serving.Served.TheVariants.{Done, ReadFault, WriteFault, DiskFault, Memory, Long}
@@ -128,7 +128,7 @@ module _ (code : Image) (xs : List (SessionItem StoreState)) (old mid : Moment) 
   moved : (F : (StoreState → List ℕ → Type 0) → StoreState → Type 0) → F (stands_where code mid.store) (state_of mid.store) → F (stands_where code old.store) (state_after (state_of old.store) xs)
   moved F is =
       subst (F (stands_where code old.store)) was.state
-      (subst (λ (area : Option ℕ). F (StandsForStore (program_of code) area) (state_of mid.store)) was.area is)
+      (subst (λ (area : Option ℕ). F (RepresentsStore (program_of code) area) (state_of mid.store)) was.area is)
 
   stays_on : (new : Moment) → StaysIn (area_of_store mid.store) mid.disk new.disk → StaysIn (area_of_store old.store) old.disk new.disk
   stays_on new stays = stays_then (area_of_store old.store) old.disk mid.disk new.disk was.stays (subst (λ (area : Option ℕ). StaysIn area mid.disk new.disk) was.area stays)

@@ -20,7 +20,7 @@ use Rattle.ob_serve.specs.Crash.{AfterSome}
 use Rattle.ob_serve.specs.Session.{SessionItem, bytes_of}
 use Rattle.ob_serve.specs.Serving.{Moment, IsServing, StaysIn, stands_where, Answered, RoseOnce, Stopped}
 use Rattle.ob_serve.specs.declared.serving.Served.TheVariants.{WriteFault, DiskFault, Memory}
-use Rattle.ob_serve.specs.Standing.{StandsForStore}
+use Rattle.ob_serve.specs.Standing.{RepresentsStore}
 use Rattle.ob_serve.proofs.Committed.{stands_through, quiet_stands}
 
 abbrev pub moment : Store → SinkView → DiskView → Moment
@@ -81,7 +81,7 @@ module _ (code : Image) (store : Store) (output : SinkView) (disk : DiskView) (s
         written = front.3;
         given_is = (front.0, front.1, refl, append-nil (bytes_of item.reply) ∙ front.2);
         stored = throughout_to after _ _ (stands_through (program_of code) kept after stands now_at_rest.at_rest)
-            (λ c is. (1, refl, subst (λ (s : StoreState). stands_where code store s c) state (subst (λ (a : Option ℕ). StandsForStore (program_of code) a (state_of kept) c) area is)));
+            (λ c is. (1, refl, subst (λ (s : StoreState). stands_where code store s c) state (subst (λ (a : Option ℕ). RepresentsStore (program_of code) a (state_of kept) c) area is)));
         since = one_since;
         stays = stays;
         sure = λ none same. cc same;

@@ -25,7 +25,7 @@ use Rattle.ob_lanes_laws.specs.Schedule.{Done, Lanes, is_done, idle, step, commi
 use Rattle.ob_lanes_laws.specs.Turns.{turned, next_lane, is_answered, are_done_from}
 use Rattle.ob_lanes_laws.specs.Requests.{Answer}
 use Rattle.ob_lanes.specs.Seen.{IsSeenAs}
-use Rattle.ob_lanes.specs.Standing.{State, BusyLane, StandFor, NoneHasEnded, EndsAlone, LaneTells, Tells, CanTurn, Turned, rules_on, Commits, committed_by, in_order, requests_kept}
+use Rattle.ob_lanes.specs.Standing.{State, BusyLane, LanesRepresentBatch, NoneHasEnded, EndsAlone, LaneTells, Tells, CanTurn, Turned, rules_on, Commits, committed_by, in_order, requests_kept}
 use Rattle.ob_lanes.specs.declared.batch.BatchRequest.{BatchRequest}
 use Rattle.ob_lanes.specs.declared.lanes.Lanes as lanes_here
 use Rattle.ob_lanes.specs.declared.lanes.Turn.{Turn}
@@ -64,7 +64,7 @@ use Rattle.ob_serve.proofs.Sessions.{state_after-append}
 
 -- lanes of which none is busy are where a batch begins
 pub begins : (b : BatchOn) (store : Store) (lanes : lanes_here.Lanes) → state_of store ≡ b.start → area_of_store store ≡ b.area
-    → StandFor b.code b.limits.fuel (asked_in b) (kept_of store) lanes (idle (content_of (kept_of store)) b.limits.lanes) → requests_kept lanes ≡ b.requests
+    → LanesRepresentBatch b.code b.limits.fuel (asked_in b) (kept_of store) lanes (idle (content_of (kept_of store)) b.limits.lanes) → requests_kept lanes ≡ b.requests
     → lanes.next ≡ 0 → lanes.slice ≡ b.limits.slice → AreAsFar b 0 store lanes
 begins b store lanes start area stand requests next slice = record {
   few = omega arith;
@@ -86,12 +86,12 @@ pub no_code : Image
 no_code = record { contracts = [] }
 
 -- as many lanes as at first
-pub lanes_there : (code : Image) (limits : Limits) (batch : List Request) (base : Stored) (old new : lanes_here.Lanes) → StandFor code limits.fuel [] base old (idle (content_of base) limits.lanes)
-    → StandFor code limits.fuel (map request_of batch) base new (idle (content_of base) (length old.lanes.items)) → StandFor code limits.fuel (map request_of batch) base new (idle (content_of base) limits.lanes)
+pub lanes_there : (code : Image) (limits : Limits) (batch : List Request) (base : Stored) (old new : lanes_here.Lanes) → LanesRepresentBatch code limits.fuel [] base old (idle (content_of base) limits.lanes)
+    → LanesRepresentBatch code limits.fuel (map request_of batch) base new (idle (content_of base) (length old.lanes.items)) → LanesRepresentBatch code limits.fuel (map request_of batch) base new (idle (content_of base) limits.lanes)
 lanes_there code limits batch base old new was stands =
     let count : length old.lanes.items ≡ limits.lanes =
     pair_length code limits.fuel base old.entries.items old.lanes.items (idle_lanes limits.lanes) was.state.each ∙ length-replicate limits.lanes None in
-    subst (λ n. StandFor code limits.fuel (map request_of batch) base new (idle (content_of base) n)) count stands
+    subst (λ n. LanesRepresentBatch code limits.fuel (map request_of batch) base new (idle (content_of base) n)) count stands
   where
     idle_lanes : ℕ → List (Option BusyLane)
     idle_lanes n = replicate n None

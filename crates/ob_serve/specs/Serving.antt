@@ -16,7 +16,7 @@ use Rattle.ob_store.specs.declared.store.Store.{Store}
 use Rattle.ob_serve.specs.Crash.{AfterFirst, AfterSome}
 use Rattle.ob_serve.specs.Served.{IsAnswered, IsGiven, IsStored}
 use Rattle.ob_serve.specs.Session.{SessionItem, is_blank_line, state_after, replies}
-use Rattle.ob_serve.specs.Standing.{StandsForStore}
+use Rattle.ob_serve.specs.Standing.{RepresentsStore}
 use Rattle.ob_serve.specs.declared.serving.Served.{Served}
 use Rattle.ob_serve.specs.declared.serving.Served.TheVariants.{Done, ReadFault, WriteFault, DiskFault, Memory, Long}
 
@@ -43,7 +43,7 @@ pub record StaysIn (area : Option ℕ) (old new : DiskView) : Type 0 where
 
 -- when bytes represent a store that is kept where this one is
 abbrev pub stands_where : Image → Store → StoreState → List ℕ → Type 0
-stands_where code store = StandsForStore (program_of code) (area_of_store store)
+stands_where code store = RepresentsStore (program_of code) (area_of_store store)
 
 -- These items are answered and stored, and nothing failed.
 pub record Answered (code : Image) (items : List (SessionItem StoreState)) (old new : Moment) : Type 0 where

@@ -6,9 +6,9 @@ use Rattle.ob_table.specs.Tables.{ClassTable}
 use Rattle.ob_store_spec.specs.Stores.{StoreProgram, StoreState, IsStoreOf}
 
 -- the bytes of a disk with areas of a size represent a store; one in memory has no disk
-abbrev pub StandsForStore : StoreProgram → Option ℕ → StoreState → List ℕ → Type 0
-StandsForStore program None s bytes = ⊤
-StandsForStore program (Some size) s bytes = IsStoreOf program size bytes s
+abbrev pub RepresentsStore : StoreProgram → Option ℕ → StoreState → List ℕ → Type 0
+RepresentsStore program None s bytes = ⊤
+RepresentsStore program (Some size) s bytes = IsStoreOf program size bytes s
 
 -- a program by its class table and its image, as a store knows it
 abbrev pub source_program : ClassTable → Image → StoreProgram

@@ -11,7 +11,7 @@ use Rattle.ob_lanes_laws.specs.Schedule as schedule
 use Rattle.ob_lanes_laws.specs.Turns.{Round, turned}
 use Rattle.ob_lanes.specs.Seen.{IsSeenAs}
 use Rattle.ob_exec.specs.declared.runs.SliceOutcome.TheVariants.{Ended}
-use Rattle.ob_lanes.specs.Standing.{State, StandFor, NoneHasEnded, LaneTells, requests_kept}
+use Rattle.ob_lanes.specs.Standing.{State, LanesRepresentBatch, NoneHasEnded, LaneTells, requests_kept}
 use Rattle.ob_lanes.specs.Standing as of_lanes
 use Rattle.ob_lanes.specs.declared.lanes.Lanes.{Lanes}
 use Rattle.ob_machine_steps.specs.Measures.{LeadsAheadOrToUnit}
@@ -84,7 +84,7 @@ pub record AreAsFar (b : BatchOn) (turns : ℕ) (store : Store) (lanes : Lanes) 
   pub few : turns ≤ turns_of b
   pub state : State
   pub seen : IsSeenAs (session_stores (program_of b.code) b.area) (round_after b turns).lanes state
-  pub stand : StandFor b.code b.limits.fuel (asked_in b) (kept_of store) lanes state
+  pub stand : LanesRepresentBatch b.code b.limits.fuel (asked_in b) (kept_of store) lanes state
   pub requests : requests_kept lanes ≡ b.requests
   pub going : NoneHasEnded state
   pub next : lanes.next ≡ (round_after b turns).next

@@ -7,7 +7,7 @@ ghost use Rattle.ob_heap.specs.declared.delta.Delta.{Delta as HeapDelta};
 ghost use Rattle.ob_invocation_spec.specs.Requests.{HasLabels};
 ghost use Rattle.ob_lanes_laws.specs.Laws.{OfEach};
 ghost use Rattle.ob_lanes_laws.specs.Schedule.{idle};
-ghost use Rattle.ob_lanes.specs.Standing.{StandFor, requests_kept};
+ghost use Rattle.ob_lanes.specs.Standing.{LanesRepresentBatch, requests_kept};
 ghost use Rattle.ob_store_spec.specs.Stores.{StoreState};
 ghost use Rattle.ob_store.specs.Stores.{area_of_store, program_of, state_of};
 ghost use Rattle.ob_store.specs.declared.store.Store.{Store as KeptStore};
@@ -46,7 +46,7 @@ pub fn lanes_of(alloc: Global, limits: Limits, batch: Items<Request>) -> Result<
     requires most { length batch ≤ most_requests }
     requires limits { AreLimits limits }
     requires most_lanes { limits.lanes ≤ 8 }
-    ensures stand { IfOk result (λ lanes. (code : Image) (base : Stored) → StandFor code limits.fuel (map request_of batch) base lanes (idle (content_of base) limits.lanes)) }
+    ensures stand { IfOk result (λ lanes. (code : Image) (base : Stored) → LanesRepresentBatch code limits.fuel (map request_of batch) base lanes (idle (content_of base) limits.lanes)) }
     ensures requests { IfOk result (λ lanes. requests_kept lanes ≡ batch) }
     ensures next { IfOk result (λ lanes. lanes.next ≡ 0) }
     ensures slice { IfOk result (λ lanes. lanes.slice ≡ limits.slice) }

@@ -7,7 +7,7 @@ ghost use Rattle.ob_io.specs.Causes.{Rose};
 ghost use Rattle.ob_rest_spec.specs.AtRest.{IsStoreAtRest};
 ghost use Rattle.ob_store_spec.specs.Stores.{StoreProgram, StoreState};
 ghost use Rattle.ob_store.specs.Stores.{area_of_store, kept_of, state_of, StandsOn};
-ghost use Rattle.ob_serve.specs.Standing.{StandsForStore};
+ghost use Rattle.ob_serve.specs.Standing.{RepresentsStore};
 ghost use Rattle.ob_serve.specs.Stops.{LeadsOn};
 
 use ob_disk::Disk;
@@ -38,8 +38,8 @@ pub fn keep<D: Disk>(
         StandsOn program store.old (D.view disk.old) → StandsOn program store.new (D.view disk.new)) }
     ensures crash { (program : StoreProgram) (after : StoreState) → LeadsOn program store.old after prepared →
         IsStoreAtRest program.table (content_of (kept_of store.old)) → StandsOn program store.old (D.view disk.old) → During (D.view disk.old) (D.view disk.new)
-        (λ c. StandsForStore program (area_of_store store.old) (state_of store.old) c
-        ⊎ StandsForStore program (area_of_store store.old) after c) }
+        (λ c. RepresentsStore program (area_of_store store.old) (state_of store.old) c
+        ⊎ RepresentsStore program (area_of_store store.old) after c) }
     ensures untouched { area_of_store store.old ≡ None → IsUntouched (D.view disk.old) (D.view disk.new) }
     ensures sure { area_of_store store.old ≡ None → result ≢ Err KeepError.DiskFault }
     ensures memory { IsErrOf result KeepError.Memory → IsUntouched (D.view disk.old) (D.view disk.new) }

@@ -13,7 +13,7 @@ ghost use Rattle.ob_store.specs.Stores.{area_of_store, kept_of, program_of, stat
 ghost use Rattle.ob_serve.specs.Items.{by_machine, by_source, items_of_line};
 ghost use Rattle.ob_serve.specs.Kept.{AreLimits, IsServable, IsSoundFor};
 ghost use Rattle.ob_serve.specs.Served.{Ends};
-ghost use Rattle.ob_serve.specs.Standing.{StandsForStore, source_program};
+ghost use Rattle.ob_serve.specs.Standing.{RepresentsStore, source_program};
 ghost use Rattle.ob_serve.specs.Stops.{reader, ReadsLine, IsStop};
 
 use crate::limits::Limits;
@@ -97,7 +97,7 @@ fn serve_lines<S: Source, K: Sink, D: Disk>(
     requires at_rest { IsStoreAtRest (table_of_image code.now) (content_of (kept_of store.old)) }
     requires stands { StandsOn (program_of code.now) store.old (D.view disk.old) }
     ensures ends { Ends (items_of_line (by_machine code.now limits (area_of_store store.old)))
-        (StandsForStore (program_of code.now) (area_of_store store.old)) (state_of store.old)
+        (RepresentsStore (program_of code.now) (area_of_store store.old)) (state_of store.old)
         (record { input = S.view input.old; output = K.view output.old; disk = D.view disk.old })
         (record { input = S.view input.new; output = K.view output.new; disk = D.view disk.new })
         result }
@@ -159,7 +159,7 @@ pub fn serve<S: Source, K: Sink, D: Disk>(
 
     // The row of each status, by the code.
     ensures by_code { Ends (items_of_line (by_machine code.now limits (area_of_store store.old)))
-        (StandsForStore (program_of code.now) (area_of_store store.old)) (state_of store.old)
+        (RepresentsStore (program_of code.now) (area_of_store store.old)) (state_of store.old)
         (record { input = S.view input.old; output = K.view output.old; disk = D.view disk.old })
         (record { input = S.view input.new; output = K.view output.new; disk = D.view disk.new })
         result }
@@ -167,7 +167,7 @@ pub fn serve<S: Source, K: Sink, D: Disk>(
     // The same by the source meaning of each program of which this is sound code.
     ensures ends { (program : SilicaProgram) → IsSoundFor program code.now →
         Ends (items_of_line (by_source (source_program program.table code.now) code.now limits (area_of_store store.old)))
-        (StandsForStore (source_program program.table code.now) (area_of_store store.old)) (state_of store.old)
+        (RepresentsStore (source_program program.table code.now) (area_of_store store.old)) (state_of store.old)
         (record { input = S.view input.old; output = K.view output.old; disk = D.view disk.old })
         (record { input = S.view input.new; output = K.view output.new; disk = D.view disk.new })
         result }

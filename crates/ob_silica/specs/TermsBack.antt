@@ -1,4 +1,4 @@
--- The terms of a body that plain data stands for.
+-- The terms of a body that plain data represents.
 use Rattle.std.specs.Prelude.{◌≡◌, List, [], ◌∷◌}
 use Rattle.std.specs.Coded.{Coded, coded_list, code_by}
 use Rattle.std.proofs.Common.{ap, ◌∙◌, refl}
@@ -80,6 +80,6 @@ mutual
 pub silica_body_of-back : (body : SilicaBody) → silica_body_of (silica_body_back body) ≡ body
 silica_body_of-back body = ap (λ ts. record { contract = body.contract; tx = body.tx; terms = ts; slots = body.slots; end = body.end }) (terms_of-back body.terms)
 
--- plain terms are told apart as the terms that they stand for are
+-- plain terms are told apart as the terms that they represent are
 abbrev pub terms_code : Coded Term → Coded SilicaTerms
 terms_code code = code_by (List Term) (coded_list code) terms_back terms_of terms_of-back

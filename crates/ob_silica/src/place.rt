@@ -20,7 +20,7 @@ pub enum Place {
 pub struct Operand {
     /// Where the value is found.
     pub place: Place,
-    /// The span of the name, `this` or other expression that it stands for.
+    /// The span of the name, `this` or other expression that it represents.
     pub span: Span,
 }
 

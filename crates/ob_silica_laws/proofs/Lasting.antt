@@ -46,7 +46,7 @@ use Rattle.ob_silica_steps.specs.Returning.{exits_are_within, gives_this, gives_
 use Rattle.ob_silica_steps.specs.Steps.{act, end_step, control_step, step, then_steps, steps}
 use Rattle.ob_silica_steps.specs.Straight.{operate, with_operated, with_truth, with_text, available_field, copy_to, move_to, disowns_object}
 use Rattle.ob_silica_steps.specs.Testing.{StateTest, narrowed, into_branch, tells, tests_from, test_shared_this, test_this_as, test_shared, test_object, is_in, reads_object, test_step, end_branch}
-use Rattle.ob_silica_laws.specs.Laws.{PaysTurn, PaysTurns, IsOver, RunsEnd}
+use Rattle.ob_silica_laws.specs.Laws.{TurnTakesUnit, NextTurnTakesUnit, IsOver, RunsEnd}
 use Rattle.ob_silica_laws.proofs.Keeping.{Leads}
 use Rattle.ob_silica_laws.proofs.StepsKeep.{step_keeps}
 
@@ -666,10 +666,10 @@ module _ (program : SilicaProgram) where
 
   -- in the run from here each turn of a Loop takes a unit
   abbrev Pays : Configuration → Type 0
-  Pays c = (n : ℕ) → PaysTurns (steps program n c)
+  Pays c = (n : ℕ) → NextTurnTakesUnit (steps program n c)
 
   pays_on : (c d : Configuration) → step program c ≡ goes d → Pays c → Pays d
-  pays_on c d e pays n = subst (λ next. PaysTurns (then_steps next (steps program n))) e (pays (suc n))
+  pays_on c d e pays n = subst (λ next. NextTurnTakesUnit (then_steps next (steps program n))) e (pays (suc n))
 
   -- a run ends where what comes after its first step does
   ends_after : (c : Configuration) (next : NextStep) → step program c ≡ next → ((d : Configuration) → next ≡ goes d → Ends' d) → Ends' c
@@ -709,7 +709,7 @@ module _ (program : SilicaProgram) where
     begins_turn : (c : Configuration) (first : SilicaTerms) (a : Operand) (body : SilicaTerms) (end span : Span) (rest : SilicaTerms) (outer : List Rest)
         → c.control ≡ runs (and_term (loop_form first a body end) span rest) outer → c.world.fuel ≤ f → Pays c → Ends' c
     begins_turn c first a body end span rest outer is few pays =
-        let starts = begins_so first (subst PaysTurn is (pays 0)) in
+        let starts = begins_so first (subst TurnTakesUnit is (pays 0)) in
         ends_after c (goes begun) steps_so (λ d z. takes_unit d starts.0 starts.1 around
         (sym (ap control_of z) ∙ ap (λ ts. runs ts around) starts.2)
         (let same : c.world.fuel ≡ d.world.fuel = ap fuel_of z in omega (arith, same, few))

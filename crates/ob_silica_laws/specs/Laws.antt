@@ -34,17 +34,17 @@ IsOver (aborted cause s) = ⊤
 IsOver stuck = ⊤
 
 -- where a Loop begins, its turn takes a unit at first
-abbrev pub PaysTurn : Control → Type 0
-PaysTurn (runs (and_term (loop_form first a body end) span rest) outer) = BeginsWithUnit first
-PaysTurn control = ⊤
+abbrev pub TurnTakesUnit : Control → Type 0
+TurnTakesUnit (runs (and_term (loop_form first a body end) span rest) outer) = BeginsWithUnit first
+TurnTakesUnit control = ⊤
 
 -- the same of what a step leads to
-abbrev pub PaysTurns : NextStep → Type 0
-PaysTurns (goes c) = PaysTurn c.control
-PaysTurns next = ⊤
+abbrev pub NextTurnTakesUnit : NextStep → Type 0
+NextTurnTakesUnit (goes c) = TurnTakesUnit c.control
+NextTurnTakesUnit next = ⊤
 
 -- Each run in which each turn of a Loop takes a unit comes to an end: after some number of steps no further step follows,
 -- whatever the program.
 abbrev pub RunsEnd : Type 0
-RunsEnd = (program : SilicaProgram) (start : NextStep) → ((n : ℕ) → PaysTurns (then_steps start (steps program n)))
+RunsEnd = (program : SilicaProgram) (start : NextStep) → ((n : ℕ) → NextTurnTakesUnit (then_steps start (steps program n)))
     → (n : ℕ) × IsOver (then_steps start (steps program n))

@@ -50,7 +50,7 @@ pub fn objects_stay()
 {}
 
 /// Each run in which each turn of a Loop takes a unit at first comes to an end, whatever its program: a form takes as many
-/// steps as its parts say, each loan of a call takes one to go back, and each body that is entered takes a unit.
+/// steps as its parts say, each loan of a call takes one to go back, and each turn and each body that is entered takes a unit.
 pub fn runs_end()
     ensures { RunsEnd }
 {}

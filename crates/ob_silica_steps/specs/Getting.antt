@@ -1,4 +1,4 @@
--- Permissions between a contract and its interface, and what a place gets (this project's own).
+-- What a place gets of another place, with what is noted of it (this project's own).
 use Rattle.ob_table.specs.Tables.{ClassTable}
 use Rattle.ob_table.specs.declared.contract.ResolvedType.{ResolvedType}
 use Rattle.ob_table_spec.specs.WellFormed.{kind_of_resolved}

@@ -13,7 +13,7 @@ use Rattle.ob_heap_spec.specs.Worlds.{World, Spent, SameWorld, SameSpent, RunOut
 use Rattle.ob_source_meaning.proofs.Same.{same_world, same_world_back, same_world_on, same_spent, same_spent_back, same_spent_on}
 use Rattle.ob_silica_steps.specs.Configurations.{SilicaProgram, NextStep, goes, ended, aborted, stuck}
 use Rattle.ob_silica_steps.specs.Steps.{then_steps, steps}
-use Rattle.ob_silica_laws.specs.Laws.{PaysTurns, IsOver}
+use Rattle.ob_silica_laws.specs.Laws.{NextTurnTakesUnit, IsOver}
 use Rattle.ob_silica_laws.proofs.Lasting.{runs_end}
 use Rattle.ob_lower_correct.specs.Law.{IsLoweredProgram, EndsAs}
 use Rattle.ob_rest_spec.specs.AtRest.{IsStoreAtRest}
@@ -207,7 +207,7 @@ module _ (program : SilicaProgram) (checked : IsCheckedProgram program) where
         (sym (same_lock content.objects fuel e.receiver))
         (ends_unlocked image (entry_of_request content e) _ source (source_end program _ (start_with e.receiver) source ends never alike))
 
-    pays : (n : ℕ) → PaysTurns (then_steps (start_with e.receiver) (steps program n))
+    pays : (n : ℕ) → NextTurnTakesUnit (then_steps (start_with e.receiver) (steps program n))
     pays n = turns_taken program.table (entry_lock e.receiver) (beginning_of content e) _ (so_with e.receiver refl n)
 
     -- where the run of terms is over, and what it has come to

@@ -146,8 +146,8 @@ turn calls f condition block again ls w =
     >>= (λ v w1. choose v (run_block calls f block ls w1 >>= (λ flow w2. after flow w2 again)) (gives (goes_on ls) w1)))
 
 -- A `while` is a turn, after which the same `while` is done again: no run meets the bound of its turns.
-abbrev pub IsDoneAgain : Type 0
-IsDoneAgain =
+abbrev pub WhileIsTurn : Type 0
+WhileIsTurn =
     (table : ClassTable) (depth : ℕ) (f : SourceFrame) (condition : Expression) (block : Block) (span : Span) (ls : Locals) (w : World)
     → run (call_at table depth) f (resolved_while condition block span) ls w
     ≡ turn (call_at table depth) f condition block (run (call_at table depth) f (resolved_while condition block span)) ls w

@@ -1,7 +1,7 @@
 //! Laws of what bodies do.
 #![tactic(auto)]
 
-ghost use Rattle.ob_source_laws.specs.Laws.{OfCalls, OfExpressions, OfStatements, UnitsAddUp, ReadsGrow, ObjectsStay, UnreadStayInCalls, UnreadStayInExpressions, UnreadStayInStatements, LocksEnd, DepthIsEnoughForCalls, DepthIsEnoughForExpressions, DepthIsEnoughForStatements, IsDoneAgain, AbortEndsStatements, AbortEndsBody};
+ghost use Rattle.ob_source_laws.specs.Laws.{OfCalls, OfExpressions, OfStatements, UnitsAddUp, ReadsGrow, ObjectsStay, UnreadStayInCalls, UnreadStayInExpressions, UnreadStayInStatements, LocksEnd, DepthIsEnoughForCalls, DepthIsEnoughForExpressions, DepthIsEnoughForStatements, WhileIsTurn, AbortEndsStatements, AbortEndsBody};
 
 /// Units left and units taken add up to those that were there; an aborted run has taken no more than were there.
 pub fn units_add_up()
@@ -19,7 +19,7 @@ pub fn depth_is_enough()
 
 /// A `while` is a turn, after which the same `while` is done again: no run meets the bound of its turns.
 pub fn turns_go_on()
-    ensures { IsDoneAgain }
+    ensures { WhileIsTurn }
 {}
 
 /// What was read stays read, also where the run aborts.

@@ -1,4 +1,4 @@
--- What the names of a body stand for while it runs (the Obsidian language documentation, "Expressions"; that the name
+-- What the names of a body denote while it runs (the Obsidian language documentation, "Expressions"; that the name
 -- of a reference is read last is this project's own).
 use Rattle.std.specs.Prelude.{ℕ, false, List, [], ◌∷◌, Option, Some, None, option_map, if◌then◌else◌}
 use Rattle.std.specs.Option.{option_map_or, option_and_then}
@@ -31,7 +31,7 @@ value_seen f ls w (FieldSeen id) = value_of_field f w id.0
 abbrev pub object_seen : SourceFrame → Locals → World → Seen → Option ℕ
 object_seen f ls w seen = option_and_then referred (value_seen f ls w seen)
 
--- a name is read; where nothing stands for it the run goes wrong
+-- a name is read; where it denotes nothing the run goes wrong
 abbrev pub read : SourceFrame → Locals → Seen → World → RunOutcome Value
 read f ls seen w = with_some (value_seen f ls w seen) (λ v. gives v w)
 

@@ -46,7 +46,7 @@ test_other f ls seen s w =
     with_some (object_seen f ls w seen)
     (λ n. with_some (contract_seen f ls seen) (λ declared. test_object f declared s n w))
 
--- a test of what a name stands for
+-- a test of what a name denotes
 abbrev pub test_seen : SourceFrame → Locals → Seen → StateId → World → RunOutcome TestOutcome
 test_seen f ls This s w = test_this f s w
 test_seen f ls seen s w = test_other f ls seen s w

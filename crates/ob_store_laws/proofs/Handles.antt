@@ -64,7 +64,7 @@ sorted_after : (hs : List NamedHandle) (d : Change) → InOrder hs → InOrder (
 sorted_after hs (n, None) o = is_sorted-where_key name_order (λ other. not (eq_by_cmp name_order n other)) hs o
 sorted_after hs (n, Some h) o = is_sorted-put name_order names_total n h hs o
 
--- a name stands for what changes say of it, or else for what it did
+-- a name denotes what changes say of it, or else what it denoted
 pub found_changed : (hs : List NamedHandle) (ds : List Change) (k : HandleName) → InOrder ds
     → at k (fold with_change hs ds) ≡ unwrap_or (said k ds) (at k hs)
 found_changed hs [] k o = refl
@@ -96,7 +96,7 @@ sorted_put : (hs ps : List NamedHandle) → InOrder hs → InOrder (put_handles 
 sorted_put hs [] o = o
 sorted_put hs (p ∷ ps) o = sorted_put (put_handle hs p) ps (is_sorted-put name_order names_total p.0 p.1 hs o)
 
--- the names of both, each with what it stands for in the second
+-- the names of both, each with what it denotes in the second
 abbrev pub of_both : List NamedHandle → List NamedHandle → List Change
 of_both before after = map (λ h. (h.0, at h.0 after)) (put_handles before after)
 

@@ -139,7 +139,7 @@ fn held_bytes(alloc: Global, value: Option<Handle>) -> Result<Vec<u8>, Memory>
     Ok(bytes)
 }
 
-// Whether a name stands for what has these bytes in a content.
+// Whether a name denotes what has these bytes in a content.
 fn is_held_so(
     alloc: Global,
     content: &Content,
@@ -164,7 +164,7 @@ fn handle_bytes(alloc: Global, name: &(Label, Label), held: &[u8]) -> Result<Vec
     Ok(bytes)
 }
 
-// Adds a handle, or that it is none, where its name doesn't stand for that in a content.
+// Adds a handle, or that it is none, where its name doesn't denote that in a content.
 #[tactic(auto, unfolding(ob_store_spec::specs::Payloads::handle))]
 fn add_handle(
     rows: &mut Rows,
@@ -184,7 +184,7 @@ fn add_handle(
     Ok(())
 }
 
-// The handles that stand for something else in a content.
+// The handles whose names denote something else in a content.
 fn changed_handles(
     alloc: Global,
     content: &Content,

@@ -1,4 +1,4 @@
-//! What the payloads of a journal say of a store, what a disk stands for, and why it is refused.
+//! What the payloads of a journal say of a store, what a disk represents, and why it is refused.
 #![tactic(auto)]
 
 mod laws;

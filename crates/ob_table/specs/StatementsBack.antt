@@ -1,4 +1,4 @@
--- The statements of a body that plain data stands for.
+-- The statements of a body that plain data represents.
 use Rattle.std.specs.Prelude.{◌≡◌, List, [], ◌∷◌, Option, Some, None, map, option_map}
 use Rattle.std.specs.Coded.{Coded, coded_list, code_by}
 use Rattle.std.proofs.Common.{ap, ◌∙◌, refl}
@@ -110,6 +110,6 @@ mutual
 pub resolved_body_of-back : (body : ResolvedBody) → resolved_body_of (body_back body) ≡ body
 resolved_body_of-back body = ap (λ ss. record { contract = body.contract; tx = body.tx; statements = ss; end = body.end }) (statements_of-back body.statements)
 
--- plain statements are told apart as the statements that they stand for are
+-- plain statements are told apart as the statements that they represent are
 abbrev pub statements_code : Coded ResolvedStmt → Coded Statements
 statements_code code = code_by (List ResolvedStmt) (coded_list code) statements_back statements_of statements_of-back

@@ -1,7 +1,7 @@
-//! What the names of a body stand for.
+//! What the names of a body denote.
 use ob_base::{ContractId, FieldId, Span};
 
-/// What a name in a body stands for (the Obsidian language documentation, "Expressions").
+/// What a name in a body denotes (the Obsidian language documentation, "Expressions").
 #[derive(Clone, Copy)]
 pub enum Seen {
     /// `this`
@@ -13,17 +13,17 @@ pub enum Seen {
     Field(FieldId),
 }
 
-/// What a name stands for, and where the name is.
+/// What a name denotes, and where the name is.
 #[derive(Clone, Copy)]
 pub struct SeenAt {
-    /// What it stands for.
+    /// What it denotes.
     pub of: Seen,
     /// The place of the name, or of the word `this`.
     pub span: Span,
 }
 
-/// The type of a local variable, which has no permission of its own (Coblenz et al., TOPLAS 42(3), 2020, where the
-/// permission of a variable follows from its use).
+/// A type without its permission. A local variable has no more: its permission follows from its use (Coblenz et al.,
+/// TOPLAS 42(3), 2020).
 #[derive(Clone, Copy)]
 pub enum Kind {
     /// `int`: a whole number from -2^63 to 2^63 - 1.

@@ -30,7 +30,8 @@ AreDistinct names = AllPairs (λ a b. a ≢ b) names
 abbrev pub states_of_owner : Contract → States
 states_of_owner c = if c.interface then interface_states (length c.states) else all_states (length c.states)
 
--- a permission on a contract: of states, an owner's names some of those in which the object may be, and no other any
+-- a permission on a contract: an owner's names no other states than those in which an object of the contract may be, and any other
+-- names none
 pub record IsPermOn (c : Contract) (p : Perm) : Type 0 where
   pub canonical : IsCanonical p
   pub low : p.states < 2 ^ 34
@@ -54,7 +55,7 @@ IsExitOf table kind exit = exit ≡ perm_of unowned
 
 -- Fields.
 
--- the states in which a field is there: all and none, or some of its contract's and not none
+-- where a field is there: in each state and in no state, or in one or more of its contract's states alone
 abbrev pub IsAvailability : ℕ → ℕ → Type 0
 IsAvailability states available = (available ≡ mask_of anywhere) ⊎ ((0 < available) × (available < 2 ^ states))
 

@@ -1,4 +1,4 @@
--- Names, and what a name stands for among several things: the first that has it (this project's own).
+-- Names, and what a name denotes among several things: the first that has it (this project's own).
 use Rattle.std.specs.Prelude.{ℕ, suc, Bool, List, [], ◌∷◌, ◌++◌, map, find, nat_eq, Option, Some, None, option_map, if◌then◌else◌}
 use Rattle.std.specs.List.{list_any}
 use Rattle.std.specs.Cmp.Lexicographic.{pointwise}

@@ -65,7 +65,7 @@ abbrev pub local_kind : LocalKinds → ℕ → Option Kind
 local_kind [] n = None
 local_kind (l ∷ ls) n = if nat_eq n l.0 then Some l.1 else local_kind ls n
 
--- what a name stands for: a variable that is visible, a field that there is, or `this`
+-- what a name denotes: a variable that is visible, a field that there is, or `this`
 abbrev pub kind_of_seen : StaticFrame → LocalKinds → Seen → Option Kind
 kind_of_seen f ls This = Some (Reference f.here)
 kind_of_seen f ls (Local n) = local_kind ls n
@@ -139,7 +139,7 @@ is_constructor table id tx = option_map_or (λ c. not c.interface && nat_eq tx 0
 
 abbrev mutual
   -- an expression is well-formed: a number is one of 64 bits and a text has at most 1,024 bytes, each name
-  -- stands for something, and each operand has the kind that its place needs
+  -- denotes something, and each operand has the kind that its place needs
   pub IsWellFormedExpression : StaticFrame → LocalKinds → Expression → Type 0
   IsWellFormedExpression f ls (resolved_number value span) = IsTrue (is_int value)
   IsWellFormedExpression f ls (resolved_text value span) = IsTrue (is_text value)

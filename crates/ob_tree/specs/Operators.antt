@@ -12,7 +12,7 @@ abbrev pub operators : List Operator
 operators =
     Add ∷ Sub ∷ Mul ∷ Div ∷ Rem ∷ Equal ∷ NotEqual ∷ Less ∷ LessEqual ∷ Greater ∷ GreaterEqual ∷ And ∷ Or ∷ Not ∷ Negate ∷ []
 
--- the sign that stands for an operator
+-- the sign that represents an operator
 abbrev pub sign_of_operator : Operator → Sign
 sign_of_operator Add = sign.Plus
 sign_of_operator Sub = sign.Minus

@@ -1,4 +1,4 @@
--- The reserved words that stand for permissions and for the values of `bool` (the Obsidian language documentation,
+-- The reserved words that denote permissions and the values of `bool` (the Obsidian language documentation,
 -- "Permissions" and "Expressions").
 use Rattle.std.specs.Prelude.{Bool, true, false, List, [], ◌∷◌}
 use Rattle.ob_base.specs.declared.permission.Mode.{Mode}

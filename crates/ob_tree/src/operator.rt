@@ -24,7 +24,7 @@ pub const OPERATORS: [Operator; 15] = [
     Operator::Negate,
 ];
 
-/// The sign that stands for an operator.
+/// The sign that represents an operator.
 pub fn sign_of_operator(operator: Operator) -> Sign
     ensures { result ≡ sign_of_operator operator }
 {

@@ -12,7 +12,7 @@ use std::alloc::Global;
 pub struct Block {
     /// The statements, in the order of the text.
     pub statements: Items<Stmt>,
-    /// The place of the closing brace. Where `else if` stands for a block, the `end` of the last block of its `if`.
+    /// The place of the closing brace. Where `else if` represents a block, the `end` of the last block of its `if`.
     pub end: Span,
 }
 

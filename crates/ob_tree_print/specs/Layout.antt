@@ -8,7 +8,7 @@ use Rattle.ob_lexer.specs.declared.token.TokenKind.TheVariants as kind
 use Rattle.ob_lexer.specs.declared.token.Sign.{Sign}
 use Rattle.ob_lexer.specs.declared.token.Sign.TheVariants as sign
 
--- a byte of a string, or the escape that stands for it: `\"`, `\\`, `\n` or `\t`
+-- a byte of a string, or the escape that represents it: `\"`, `\\`, `\n` or `\t`
 abbrev pub escape_of : ℕ → List ℕ
 escape_of b =
     if b == 34 then 92 ∷ 34 ∷ [] else (if b == 92 then 92 ∷ 92 ∷ [] else (if b == 10 then 92 ∷ 110 ∷ [] else (if b == 9 then 92 ∷ 116 ∷ [] else b ∷ [])))

@@ -18,14 +18,14 @@ use Rattle.ob_lexer.specs.declared.token.TokenKind.{TokenKind}
 use Rattle.ob_lexer.specs.declared.token.TokenKind.TheVariants as kind
 use Rattle.ob_lexer.specs.declared.token.Sign.{Sign}
 use Rattle.ob_lexer.specs.declared.token.Sign.TheVariants as sign
-use Rattle.ob_lexer.specs.Spelling.{spelling_of_word, spelling_of_sign, is_digits, value_of_digits, StringPart, itself, escape, IsPart, AreParts, spelling_of_part, value_of_part, StandsFor, IsString, IsSpelling}
+use Rattle.ob_lexer.specs.Spelling.{spelling_of_word, spelling_of_sign, is_digits, value_of_digits, StringPart, itself, escape, IsPart, AreParts, spelling_of_part, value_of_part, SpellsContent, IsString, IsSpelling}
 use Rattle.ob_lexer.proofs.Reserved.{word_is_word}
 use Rattle.ob_tree_print.specs.Layout.{escape_of, quoted, spelling_of}
 use Rattle.ob_tree_print.proofs.Escapes.{escaped_plain}
 
 -- ---- a string
 
--- a byte between quotes, or the escape that stands for it
+-- a byte between quotes, or the escape that represents it
 abbrev part_of : ℕ → StringPart
 part_of b =
     if b == 34 then escape 34 34 else (if b == 92 then escape 92 92 else (if b == 10 then escape 110 10 else (if b == 9 then escape 116 9 else itself b)))
@@ -65,7 +65,7 @@ parts_mean [] = refl
 parts_mean (b ∷ text) =
     ap (λ (x : ℕ). x ∷ text) (sym (part_is b).means) ∙ ap (λ (l : List ℕ). value_of_part (part_of b) ∷ l) (parts_mean text)
 
-pub escapes_stand : (text : List ℕ) → StandsFor (flat_map escape_of text) text
+pub escapes_stand : (text : List ℕ) → SpellsContent (flat_map escape_of text) text
 escapes_stand text = record { parts = map part_of text; are = parts_are text; spelled = parts_read text; means = parts_mean text }
 
 pub quoted_is : (text : List ℕ) → IsString (quoted text) text
@@ -146,7 +146,7 @@ sign_low : (s : Sign) → list_all is_low (spelling_of_sign s) ≡ true
 sign_low sign.OpenBrace = refl
 sign_low _ = refl
 
--- an escape is ASCII where what it stands for is
+-- an escape is ASCII where what it represents is
 escape_low : (b : ℕ) → b < 128 → list_all is_low (escape_of b) ≡ true
 escape_low b low = elim (cases_Bool (b == 34)) [
   | inl quote ↦ rw quote refl

@@ -3,7 +3,7 @@ ghost use Rattle.std.specs.Prelude.{◌≡◌, true, nat_lt, length};
 ghost use Rattle.std.specs.List.{list_all};
 ghost use Rattle.std.specs.Option.{option_map_or};
 ghost use Rattle.ob_verify_spec.specs.Instructions.{reads, slot_set};
-ghost use Rattle.ob_verify_spec.specs.Conditions.{is_within, bad_jump, lacks_slots, may_set, bad_slot, bad_field, is_unit, is_fuelled, no_fuel_mark};
+ghost use Rattle.ob_verify_spec.specs.Conditions.{is_within, bad_jump, lacks_slots, may_set, bad_slot, bad_field, is_unit, is_ahead_or_unit, no_fuel_mark};
 
 use crate::frame::CodeFrame;
 use ob_base::FieldId;
@@ -34,8 +34,8 @@ fn is_unit(instruction: &Instruction) -> bool
 }
 
 // Whether a target is ahead of a place, or a `unit` stands there.
-fn is_fuelled(frame: &CodeFrame<'_>, place: usize, target: u32) -> bool
-    ensures { result ≡ is_fuelled frame.now place target }
+fn is_ahead_or_unit(frame: &CodeFrame<'_>, place: usize, target: u32) -> bool
+    ensures { result ≡ is_ahead_or_unit frame.now place target }
 {
     let target = target as usize;
     if place < target {
@@ -52,9 +52,9 @@ pub fn no_fuel_mark(frame: &CodeFrame<'_>, place: usize, instruction: &Instructi
     ensures { result ≡ no_fuel_mark frame.now place instruction.now }
 {
     match instruction {
-        Instruction::Jump { target } => !is_fuelled(frame, place, *target),
-        Instruction::Unless { target, .. } => !is_fuelled(frame, place, *target),
-        Instruction::Test { target, .. } => !is_fuelled(frame, place, *target),
+        Instruction::Jump { target } => !is_ahead_or_unit(frame, place, *target),
+        Instruction::Unless { target, .. } => !is_ahead_or_unit(frame, place, *target),
+        Instruction::Test { target, .. } => !is_ahead_or_unit(frame, place, *target),
         _ => false,
     }
 }

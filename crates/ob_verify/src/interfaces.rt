@@ -32,7 +32,7 @@ fn interface_at(image: &Surveyed<'_>, number: u32) -> Option<Kind>
     }
 }
 
-// The interface that is declared as implemented, by its number and 1; 0 stands for none.
+// The interface that is declared as implemented, by its number and 1; 0 represents none.
 #[tactic(auto, using(crate::proofs::RowLoops::declared_by))]
 fn interface_declared(image: &Surveyed<'_>, implements: u32) -> Option<Kind>
     ensures { result ≡ interface_declared image.now implements }

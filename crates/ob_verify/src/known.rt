@@ -82,6 +82,7 @@ fn pass_all(
     Ok(())
 }
 
+// A copy of what is known of the slots at a place.
 fn copy_row(alloc: Global, row: &Option<KindRow>) -> Result<Option<KindRow>, Memory>
     ensures { IfOk result (λ copy. copy ≡ row.now) }
 {
@@ -91,6 +92,7 @@ fn copy_row(alloc: Global, row: &Option<KindRow>) -> Result<Option<KindRow>, Mem
     }
 }
 
+// A copy of what is known of the slots at each place.
 fn copy_rows(alloc: Global, rows: &[Option<KindRow>]) -> Result<Vec<Option<KindRow>>, Memory>
     ensures { IfOk result (λ copies. copies.items ≡ rows.now) }
 {
@@ -108,6 +110,7 @@ fn slot_changes(image: &Surveyed<'_>, known: Option<Kind>, other: Option<Kind>) 
     !same_result(both_hold(image, known, other), known)
 }
 
+// Whether what some slot is known to hold changes where another way meets it.
 #[tactic(auto, using(crate::proofs::KnownLoops::slots))]
 fn row_changes(image: &Surveyed<'_>, known: &[Option<Kind>], other: &[Option<Kind>]) -> bool
     ensures { result ≡ row_changes image.now known.now other.now }
@@ -120,6 +123,7 @@ fn row_changes(image: &Surveyed<'_>, known: &[Option<Kind>], other: &[Option<Kin
     false
 }
 
+// Whether what is known at a place changes where another way meets it.
 fn place_changes(image: &Surveyed<'_>, known: &Option<KindRow>, left: &Option<KindRow>) -> bool
     ensures { result ≡ place_changes image.now known.now left.now }
 {
@@ -144,6 +148,7 @@ fn some_change(image: &Surveyed<'_>, rows: &[Option<KindRow>], left: &[Option<Ki
     false
 }
 
+// What is known at a place on both ways to it; on one of them, where the other one doesn't come there.
 fn merged_row(
     image: &Surveyed<'_>,
     known: Option<KindRow>,
@@ -195,7 +200,7 @@ fn settle(
     }
 }
 
-// Whether an instruction at a place leads behind, or to itself.
+// Whether an instruction at a place jumps backward, or to itself.
 fn leads_behind(place: usize, instruction: &Instruction) -> bool
     ensures { result ≡ some_behind place (targets instruction.now) }
 {
@@ -207,6 +212,7 @@ fn leads_behind(place: usize, instruction: &Instruction) -> bool
     }
 }
 
+// Whether some instruction jumps backward, or to itself.
 #[tactic(auto, using(crate::proofs::KnownLoops::behind))]
 fn some_lead_behind(instructions: &[Instruction]) -> bool
     ensures { result ≡ some_lead_behind 0 instructions.now }

@@ -51,7 +51,7 @@ fn are_alike(one: Option<Kind>, other: Option<Kind>) -> bool
     }
 }
 
-// Whether a slot holds a value of a kind, or of one that may stand for it.
+// Whether a slot holds a value of a kind, or of one that may take the place of it.
 fn holds_kind(image: &Surveyed<'_>, row: &[Option<Kind>], slot: u8, wanted: Kind) -> bool
     ensures { result ≡ meets image.now (held_at row.now) (of_kind slot wanted) }
 {

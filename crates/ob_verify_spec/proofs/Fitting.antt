@@ -1,4 +1,4 @@
--- Slots that hold values of kinds that may stand for the known ones meet what those meet.
+-- Slots that hold values of kinds that may take the place of the known ones meet what those meet.
 use Rattle.std.proofs.Common.{◌≡◌, ℕ, zero, suc, ◌<◌, List, [], ◌∷◌, Option, Some, None, Bool, true, false, ◌||◌, not, ◌==◌, Contains, slice_get, refl, sym, ap, ◌∙◌, subst, inl, inr}
 use Rattle.std.specs.Option.{option_map_or}
 use Rattle.std.proofs.lemmas.Bool.{true≢false, and_parts, or_cases, or_left, eqb-true, eq-eqb, not-true}
@@ -41,12 +41,12 @@ fits_self m kind.Bool = refl
 fits_self m kind.Text = refl
 fits_self m (kind.Reference c) = or_left (c.0 == c.0) (option_map_or (implements_number c) (slice_get m.contracts c.0) false) (eq-eqb c.0 c.0 refl)
 
--- a kind may stand for one to which it belongs
+-- a kind may take the place of one to which it belongs
 pub belongs_fits : (m : Image) (x y : Kind) → BelongsTo m x y → fits m x y ≡ true
 belongs_fits m x y (inl e) = ap (fits m x) (sym e) ∙ fits_self m x
 belongs_fits m x y (inr e) = interface_fits m x y e
 
--- a value of a kind that may stand for one which may stand for another may stand for that
+-- where a kind may take the place of a second, and that of a third, the first may take the place of the third
 pub fits_all : (m : Image) → ImplementsInterfacesAlone m → (x y z : Kind) → fits m x y ≡ true → fits m y z ≡ true → fits m x z ≡ true
 fits_all m alone (kind.Reference b) (kind.Reference c) (kind.Reference d) e g = contracts_fit m alone b c d e g
 fits_all m alone kind.Int kind.Int z e g = g
@@ -57,7 +57,7 @@ fits_all m alone (kind.Reference b) (kind.Reference c) kind.Bool e g = absurd (t
 fits_all m alone (kind.Reference b) (kind.Reference c) kind.Text e g = absurd (true≢false (sym g))
 fits_all m alone x y z e g = absurd (true≢false (sym e))
 
--- what stands for no reference is of that very kind, and what stands for a reference is one
+-- what may take the place of no reference is of that very kind, and what may take the place of a reference is one
 fits_plain : (m : Image) (x y : Kind) → is_reference y ≡ false → fits m x y ≡ true → x ≡ y
 fits_plain m kind.Int kind.Int plain e = refl
 fits_plain m kind.Bool kind.Bool plain e = refl

@@ -74,7 +74,7 @@ plain_own m x h = ap (interface_of m) h.same ∙ ap (option_and_then (interface_
 pub interface_own : (m : Image) (x z : Kind) → interface_of m x ≡ Some z → interface_of m z ≡ Some z
 interface_own m x z e = plain_own m z (has_interface m x z e).plain
 
--- a kind may stand for its interface
+-- a kind may take the place of its interface
 fits_how : (m : Image) (x z : Kind) → HasInterface m x z → fits m x z ≡ true
 fits_how m x z h = elim (h.how) [
   | inl e ↦ ap (λ w. fits m w z) h.same ∙ ap (fits m (kind.Reference h.contract)) (e ∙ h.same) ∙ or_left (h.contract.0 == h.contract.0) (option_map_or (implements_number h.contract) (slice_get m.contracts h.contract.0) false) (eq-eqb h.contract.0 h.contract.0 refl)
@@ -108,7 +108,7 @@ wanted_of m c own (kind.Reference d) there e = elim (or_cases (c.0 == d.0) (opti
 plain_none : (own : ContractCode) → is_plain_interface own ≡ true → own.implements ≡ 0
 plain_none own e = eqb-true own.implements 0 (and_parts (is_interface own) (own.implements == 0) e).1
 
--- an interface that implements none stands for itself alone
+-- an interface that implements none may take the place of itself alone
 plain_fits : (m : Image) (x wanted : Kind) → IsPlain m x → fits m x wanted ≡ true → wanted ≡ x
 plain_fits m x wanted h e = elim (wanted_of m h.contract h.own wanted h.there (ap (λ z. fits m z wanted) (sym h.same) ∙ e)) [
   | inl g ↦ g ∙ sym h.same
@@ -127,7 +127,7 @@ wanted_how m x z wanted h e = elim (wanted_of m h.contract h.own wanted h.there 
   ]
 ]
 
--- a kind that has an interface may stand for itself and for that alone
+-- a kind that has an interface may take the place of itself and of that alone
 pub wanted_is : (m : Image) (x z wanted : Kind) → interface_of m x ≡ Some z → fits m x wanted ≡ true → (wanted ≡ x) ⊎ (wanted ≡ z)
 wanted_is m x z wanted e = wanted_how m x z wanted (has_interface m x z e)
 

@@ -13,7 +13,7 @@ use Rattle.ob_verify_spec.specs.declared.CodeFault.TheVariants.{BadJump, BadSlot
 use Rattle.ob_verify_spec.specs.Kinds.{fits, both_hold}
 use Rattle.ob_verify_spec.specs.Frames.{CodeFrame}
 use Rattle.ob_verify_spec.specs.Instructions.{KindsOfSlots, reads, slot_set, targets, leads, Need, slots_needed, meets, needs, Effect, keeps, sets, copies, set_slot, done, effect}
-use Rattle.ob_verify_spec.specs.Conditions.{bad_jump, lacks_slots, bad_slot, bad_field, bad_call, may_set, names_bad_slot, is_unit, is_fuelled, no_fuel_mark, may_go_on}
+use Rattle.ob_verify_spec.specs.Conditions.{bad_jump, lacks_slots, bad_slot, bad_field, bad_call, may_set, names_bad_slot, is_unit, is_ahead_or_unit, no_fuel_mark, may_go_on}
 use Rattle.ob_verify_spec.specs.Ways.{IsAt, at_entry, Way, start, step, IsReached, IsFaultless}
 use Rattle.ob_verify_spec.specs.Verified.{HoldsOnAllWays, AreSlotKinds, IsVerifiedBody}
 use Rattle.ob_verify_spec.specs.Passing.{held_at, KindRow}
@@ -190,7 +190,7 @@ unit_there None e = absurd (true≢false (sym e))
 unit_there (Some is.Unit) e = refl
 unit_there (Some x) e = absurd (true≢false (sym e))
 
-ahead_or_unit : (f : CodeFrame) (i t : ℕ) → is_fuelled f i t ≡ true → (i < t) ⊎ IsAt f t is.Unit
+ahead_or_unit : (f : CodeFrame) (i t : ℕ) → is_ahead_or_unit f i t ≡ true → (i < t) ⊎ IsAt f t is.Unit
 ahead_or_unit f i t e = elim (or_cases (nat_lt i t) (option_map_or is_unit (slice_get f.body.instructions t) false) e) [
   | inl lt ↦ inl (ltb-true i t lt)
   | inr h ↦ inr (unit_there (slice_get f.body.instructions t) h)
@@ -202,7 +202,7 @@ ahead_well f n i j x at c =
       omega arith,
       elim (next_or_target i x j c) [
         | inl same ↦ let next : i + 1 ≡ j = same in inl (omega arith)
-        | inr h ↦ ahead_or_unit f i j (each_passes (is_fuelled f i) (targets x) j (not-false (list_all (is_fuelled f i) (targets x)) (mark_well f n i x at)) h)
+        | inr h ↦ ahead_or_unit f i j (each_passes (is_ahead_or_unit f i) (targets x) j (not-false (list_all (is_ahead_or_unit f i) (targets x)) (mark_well f n i x at)) h)
       ],
     )
 

@@ -1,4 +1,4 @@
--- What instructions name is there, and what slots hold may be of kinds that stand for those that are known.
+-- What instructions name is there, and what slots hold may be of kinds that take the place of those that are known.
 use Rattle.std.specs.Prelude.{◌≡◌, ℕ, ◌<◌, List, length, Option, Some, None, true, false, find, slice_get, Contains}
 use Rattle.ob_base.specs.declared.id.ContractId.{ContractId}
 use Rattle.ob_base.specs.declared.id.FieldId.{FieldId}
@@ -71,7 +71,7 @@ ImplementsWhatIsThere m =
     (c d : ContractId) (own : ContractCode) → contract_code m c ≡ Some own → implements_number d own ≡ true
     → (other : ContractCode) × (contract_code m d ≡ Some other)
 
--- each of so many slots of which a kind is known holds a value of that kind, or of one that may stand for it
+-- each of so many slots of which a kind is known holds a value of that kind, or of one that may take the place of it
 abbrev pub FitKnown : Image → ℕ → KindsOfSlots → KindsOfSlots → Type 0
 FitKnown m count known s = (k : ℕ) (x : Kind) → k < count → known k ≡ Some x → (y : Kind) × (s k ≡ Some y) × (fits m y x ≡ true)
 

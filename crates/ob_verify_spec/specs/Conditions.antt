@@ -107,20 +107,20 @@ bad_call f is.Ret = is_some f.body.result
 bad_call f (is.RetValue a) = not (is_some f.body.result)
 bad_call f x = false
 
--- No fuel mark: a target behind, which the instruction's own place counts as, is no `unit`. So each turn of a loop takes a unit.
+-- No fuel mark: a jump backward, or to itself, leads to no `unit`. So each turn of a loop takes a unit.
 
 -- whether an instruction is a `unit`
 abbrev pub is_unit : Instruction → Bool
 is_unit is.Unit = true
 is_unit x = false
 
--- whether a place is ahead, or a `unit` stands there
-abbrev pub is_fuelled : CodeFrame → ℕ → ℕ → Bool
-is_fuelled f i t = nat_lt i t || option_map_or is_unit (slice_get f.body.instructions t) false
+-- whether a target is ahead of an instruction, or a `unit` stands there
+abbrev pub is_ahead_or_unit : CodeFrame → ℕ → ℕ → Bool
+is_ahead_or_unit f i t = nat_lt i t || option_map_or is_unit (slice_get f.body.instructions t) false
 
--- whether an instruction leads behind without a fuel mark
+-- whether an instruction jumps backward, or to itself, without a fuel mark
 abbrev pub no_fuel_mark : CodeFrame → ℕ → Instruction → Bool
-no_fuel_mark f i x = not (list_all (is_fuelled f i) (targets x))
+no_fuel_mark f i x = not (list_all (is_ahead_or_unit f i) (targets x))
 
 -- whether none of these conditions holds, so that ways go on after the instruction
 abbrev pub may_go_on : CodeFrame → ℕ → Instruction → Bool

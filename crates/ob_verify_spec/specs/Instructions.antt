@@ -93,7 +93,7 @@ leads i x = after_it (goes_on x) i
 
 -- What the slots must hold.
 
--- A need: a slot holds a value of a kind or of one that may stand for it; a slot holds any value; a slot holds a reference; two
+-- A need: a slot holds a value of a kind or of one that may take the place of it; a slot holds any value; a slot holds a reference; two
 -- slots hold values of one kind, which is no reference's.
 pub data Need : Type 0 where
   of_kind : ℕ → Kind → Need

@@ -52,7 +52,7 @@ abbrev pub is_reference : Kind → Bool
 is_reference (kind.Reference c) = true
 is_reference other = false
 
--- What kinds have in common. An interface counts here where it implements none: so it is its own interface and stands for itself
+-- What kinds have in common. An interface counts here where it implements none: so it is its own interface and represents itself
 -- alone, in each image, and in which order ways meet makes no difference.
 
 -- whether a contract is an interface that implements none
@@ -64,7 +64,7 @@ abbrev pub interface_at : Image → ℕ → Option Kind
 interface_at m n =
     if option_map_or is_plain_interface (slice_get m.contracts n) false then Some (kind.Reference (record { 0 = n })) else None
 
--- the interface that is declared as implemented, by its number and 1; 0 stands for none
+-- the interface that is declared as implemented, by its number and 1; 0 represents none
 abbrev pub interface_declared : Image → ℕ → Option Kind
 interface_declared m zero = None
 interface_declared m (suc n) = interface_at m n

@@ -1,6 +1,6 @@
--- The first fault of a body, found on one pass over its instructions in their order: all that leads ahead to an instruction is known
--- when the pass comes to it. What leads behind is known before: by passes that go on until nothing changes, where some instruction
--- does.
+-- The first fault of a body, found on one pass over its instructions in their order. What jumps forward bring to an instruction is
+-- known when the pass comes to it. What jumps backward bring is known before the pass: where there are some, by passes that are
+-- repeated until nothing changes.
 use Rattle.std.specs.Prelude.{ℕ, zero, suc, ◌+◌, ◌*◌, List, [], ◌∷◌, length, Option, Some, None, Bool, false, ◌||◌, not, nat_le, slice_get, slice_set, if◌then◌else◌}
 use Rattle.std.specs.List.{list_all}
 use Rattle.std.specs.Option.{option_flatten}

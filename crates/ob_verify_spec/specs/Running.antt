@@ -8,7 +8,7 @@ use Rattle.ob_verify_spec.specs.Conditions.{may_go_on}
 use Rattle.ob_verify_spec.specs.Ways.{IsAt, at_entry}
 use Rattle.ob_verify_spec.specs.Calling.{FitKnown}
 
--- a place has kinds, and where they say what a slot of the body holds, it holds that or what may stand for it
+-- a place has kinds, and where they say what a slot of the body holds, it holds that or what may take the place of it
 pub record AreKnownAt (f : CodeFrame) (kinds : ℕ → Option KindsOfSlots) (i : ℕ) (s : KindsOfSlots) : Type 0 where
   pub known : KindsOfSlots
   pub there : kinds i ≡ Some known

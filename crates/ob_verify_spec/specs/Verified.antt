@@ -36,8 +36,8 @@ pub record IsVerifiedBody (f : CodeFrame) : Type 0 where
 abbrev pub IsVerified : Image → Type 0
 IsVerified m = All (λ (f : CodeFrame). is_interface f.own ≡ false → IsVerifiedBody f) (frames_of m)
 
--- an image isn't verified: in the body of this number, which is no interface's, this is the first fault, and no body before it has
--- any
+-- an image isn't verified: in the body of this number, which is no interface's, this is the first fault, and no body of a contract
+-- before it has any
 pub record HasFault (m : Image) (number body instruction : ℕ) : Type 0 where
   pub frame : CodeFrame
   pub at : slice_get (frames_of m) body ≡ Some frame

@@ -47,7 +47,7 @@ pub fn verified_bodies_name_what_is_there()
     ensures { (f : CodeFrame) → IsVerifiedBody f → NamesWhatIsThere f }
 {}
 
-/// Where only interfaces are implemented and none by an interface, slots with values of kinds that may stand for the known
+/// Where only interfaces are implemented and none by an interface, slots with values of kinds that may take the place of the known
 /// ones meet each need that those meet.
 pub fn fitting_slots_meet_needs()
     ensures { (m : Image) → ImplementsInterfacesAlone m → MeetToo m }

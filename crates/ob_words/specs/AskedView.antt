@@ -1,4 +1,4 @@
--- What the code's values stand for.
+-- What the code's values represent.
 use Rattle.ob_words.specs.Asked.{Command, check, serve, serve_stored, audit, trial, Limits, Asked}
 use Rattle.ob_words.specs.declared.asked.Command.{Command as CodeCommand}
 use Rattle.ob_words.specs.declared.asked.Command.TheVariants.{Check, Serve, ServeStored, Audit, Trial}

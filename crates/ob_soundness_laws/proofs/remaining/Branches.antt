@@ -167,7 +167,7 @@ reached_goes_on b ts terms g j d = by_end (terms_end terms) refl
 
 -- The terms after a form, around a branch of it.
 
--- where a branch reaches its end, the terms after the form go on, if the form leaves a context that may stand for this one
+-- where a branch reaches its end, the terms after the form go on, if the form leaves a context that may take the place of this one
 abbrev pub EndsIn : BodyFrame → Context → Ends → Option Context → Type 0
 EndsIn b g ends mid = StillOwns g ends × (j : Context) × (mid ≡ Some j) × Leads b (at_end g ends) j × KnowsThis b j
 

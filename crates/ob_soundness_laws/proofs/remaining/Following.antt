@@ -1,4 +1,4 @@
--- What is so under one context and holdings is so under those that may stand for them.
+-- What is so under one context and holdings is so under those that may take the place of them.
 use Rattle.std.proofs.Common.{◌≡◌, ⊎_elim, ℕ, ◌<◌, ◌≤◌, Bool, true, false, List, Option, Some, None, refl, sym, ap, ◌∙◌, subst, arith}
 use Rattle.std.specs.Prelude.{nat_eq, nat_lt}
 use Rattle.std.proofs.lemmas.Bool.{cases_Bool, and_parts, and_from}
@@ -57,7 +57,7 @@ owner_is_asset table is objects n x s needs lt =
     serves_asset table is x.note.kind (Reference (nth_object objects n).contract)
     (kind_of_reference table objects x.note.kind n (subst (IsOfKind table objects x.note.kind) (owner_refers n x lt).1 s.kind)) needs.asset
 
--- what is said of a place is so of what may stand for it
+-- what is said of a place is so of what may take the place of it
 pub says_weaker : (table : ClassTable) → IsClassTable table → (objects : List Object) (y j : Option Known) (x : Option Cell)
     → ((c : Cell) → x ≡ Some c → Stands table objects c) → ((c : Option Cell) → Agrees y c → Agrees j c)
     → (is_owned_asset table y ≡ true → owns (permission_on j) ≡ true) → SaysOf (NeedsOwner table objects) y x → SaysOf (NeedsOwner table objects) j x
@@ -88,7 +88,7 @@ mode_then Rattle.ob_perm.specs.Permissions.unowned (Rattle.ob_perm.specs.Permiss
 mode_then Rattle.ob_perm.specs.Permissions.unowned Rattle.ob_perm.specs.Permissions.shared r e f = absurd (cc)
 mode_then Rattle.ob_perm.specs.Permissions.unowned Rattle.ob_perm.specs.Permissions.unowned r e f = f
 
--- What a context says is so of what may stand for it. Slots past the body's are unset, and no field past the contract's has a
+-- What a context says is so of what may take the place of it. Slots past the body's are unset, and no field past the contract's has a
 -- value.
 pub says_leads : (b : BodyFrame) → IsClassTable b.table → (g j : Context) (h : Here) (free : Location → Bool)
     → AllStand b.table h.world.objects h.slots → AllStand b.table h.world.objects (own_cell h)

@@ -1,4 +1,4 @@
--- What a join leaves may stand for what each of its branches leaves.
+-- What a join leaves may take the place of what each of its branches leaves.
 use Rattle.std.proofs.Common.{◌≡◌, ⊎_elim, Bool, true, false, Option, Some, None, refl, sym, ap, ◌∙◌, arith}
 use Rattle.std.specs.Prelude.{not, ◌&&◌, ◌||◌, if◌then◌else◌}
 use Rattle.std.proofs.lemmas.Bool.{both_ways, cases_Bool, or_left, or_right, and_parts, or_parts}
@@ -99,7 +99,7 @@ owns_second p unowned m e = absurd (cc)
 
 -- One place.
 
--- the second may stand for the first
+-- the second may take the place of the first
 record Weakens (table : ClassTable) (x j : Option Known) : Type 0 where
   pub known : (c : Option Cell) → Agrees x c → Agrees j c
   pub kept : LosesNone table x j
@@ -202,7 +202,7 @@ place_kept : (b : BodyFrame) (under : Permission) (g h : Context) → JoinsBranc
 place_kept b under g h j (slot k) inside = j.slots k inside
 place_kept b under g h j (field f) inside = (j.fields f inside).loses_none
 
--- the joined context may stand for that of the first branch
+-- the joined context may take the place of that of the first branch
 pub leads_first : (b : BodyFrame) (under : Permission) (g h : Context) → KnowsThis b g → KnowsThis b h
     → JoinsBranches b under g h → Leads b g (joined_context g h)
 leads_first b under g h x y j = record {
@@ -225,7 +225,7 @@ same_mode_self (owned a) = refl
 same_mode_self shared = refl
 same_mode_self unowned = refl
 
--- a context may stand for itself
+-- a context may take the place of itself
 pub leads_self : (b : BodyFrame) (g : Context) → Leads b g g
 leads_self b g = record { known = λ p c h. h; kept = λ p inside o. owns_known (g p) o; mode = same_mode_self _ }
   where

@@ -24,7 +24,7 @@ use Rattle.ob_flow_spec.specs.Contexts.{BodyFrame, field_count, Context, permiss
 use Rattle.ob_flow_spec.specs.Uses.{uses_place}
 use Rattle.ob_flow_spec.specs.Binding.{read_of}
 use Rattle.ob_flow_spec.specs.Joining.{same_kind, same_mode}
-use Rattle.ob_flow_spec.specs.Looping.{holding, is_kept, slot_at_head, head_context, is_as_at_head, turns_back_if}
+use Rattle.ob_flow_spec.specs.Looping.{holding, is_kept, slot_at_head, head_context, is_as_at_head, frame_is_as_at_head_if}
 use Rattle.ob_flow_spec.specs.Deriving.{Derived, derive, derive_all, if_reached}
 use Rattle.ob_flow_laws.specs.Looping.{TurnsBack, TurnsBackIf}
 use Rattle.ob_flow_laws.specs.Deriving.{PassesLoop, PassesTurnIf}
@@ -81,7 +81,7 @@ module _ (b : BodyFrame) (first body : SilicaTerms) (g : Context) where
   abbrev known_at_head : Context
   known_at_head = head_context b first body g
 
-  -- the context at the head of a Loop may stand for the one before it
+  -- the context at the head of a Loop may take the place of the one before it
   pub leads_head : Leads b g known_at_head
   leads_head = record { known = known_too; kept = kept_too; mode = same_mode_self _ }
     where
@@ -186,7 +186,7 @@ place_mode : (table : ClassTable) (x : Known) (y : Option Known) → is_as_at_he
 place_mode table x None e = absurd (cc)
 place_mode table x (Some y) e = mode_match y.permission x.permission (and_parts (same_kind y.kind x.kind) (matches y.permission x.permission) e).1
 
--- where a turn ends as it began, the context at the head may stand for the one at the end
+-- where a turn ends as it began, the context at the head may take the place of the one at the end
 leads_turn : (b : BodyFrame) (first body : SilicaTerms) (g j : Context) → KnowsThis b g → TurnsBack b (head_context b first body g) j → Leads b j (head_context b first body g)
 leads_turn b first body g j y t = record { known = known_too; kept = kept_too; mode = mode_too }
   where
@@ -262,7 +262,7 @@ module _ (b : BodyFrame) (h : Holdings) (g : Context) (first : SilicaTerms) (a :
       derive_all b (tested_places outer) first x
       >>= (λ left. if_reached left (λ j. checked (uses_place b j (read_of a)) j
       >>= (λ j. derive_all b (tested_places outer) body j
-      >>= (λ turned. checked (turns_back_if b x turned end) (Some j)))))
+      >>= (λ turned. checked (frame_is_as_at_head_if b x turned end) (Some j)))))
 
   derives_again : head_context b first body head ≡ head → derive_all b (tested_places outer) (and_term turn end rest) head ≡ Ok r.left
   unfolding from_head

@@ -54,7 +54,7 @@ pub says_locked : (b : BodyFrame) (N : ℕ → Type 0) (g : Context) (h : Here) 
     → Says b N g h free → Says b N g (with_locked h ls) free
 says_locked b N g h ls free s = record { slots = s.slots; fields = s.fields; mode = s.mode }
 
--- What a context says of a frame's places is so of one that may stand for it.
+-- What a context says of a frame's places is so of one that may take the place of it.
 pub sits_leads : (table : ClassTable) (t : IsClassTable table) (f : SilicaFrame) (parts : BodyParts) (h : Here)
     (g j : Context) → Sits table f parts h g
     → Leads (body_of table f parts) g j → Says (body_of table f parts) (NeedsOwner table h.world.objects) j h every

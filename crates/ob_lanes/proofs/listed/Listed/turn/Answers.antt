@@ -5,7 +5,7 @@ use Rattle.std.specs.Vec.{with_items}
 use Rattle.std.proofs.lemmas.List.{with_items_is, places}
 use Rattle.ob_lanes.specs.Committing.{lane_at}
 use Rattle.ob_lanes.specs.Readers.{objects_read}
-use Rattle.ob_lanes.specs.Standing.{LanesStandFor, HadTurn}
+use Rattle.ob_lanes.specs.Standing.{LanesRepresent, HadTurn}
 use Rattle.ob_lanes.specs.declared.batch.Busy.{Busy}
 use Rattle.ob_lanes.proofs.listed.Listed.turn.Goals as goal
 
@@ -22,7 +22,7 @@ returns-clause-had g c = λ l those going.
     let same : (with_items c.self.inside.lanes c.turn_listed.new.lanes).items ≡ c.turn_listed.new.lanes = with_items_is c.self.inside.lanes c.turn_listed.new.lanes (search (rules, places)) in
     let seen : c.deref_mut.result.now ≡ c.args.self.now.items = c.deref_mut.ensures.value ∙ ap (λ (v : Vec (Option Busy)). v.items) c.self.view_is in
     subst (λ x. IfOk c.turn_listed.result (HadTurn image c.args.fuel base entries c.args.units c.args.lane l x)) (sym same)
-    (c.turn_listed.ensures.had l (subst (λ x. LanesStandFor image c.args.fuel base entries x l) (sym seen) those) going)
+    (c.turn_listed.ensures.had l (subst (λ x. LanesRepresent image c.args.fuel base entries x l) (sym seen) those) going)
 
 pub returns-clause-idle : goal.returns-clause-idle
 returns-clause-idle g c =
