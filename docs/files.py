@@ -10,7 +10,10 @@ It runs PROGRAM, the one that the gate has left if none is named, and wants this
 - in both cases standard error tells which stream failed;
 - of a text that is too long no more is read than tells that it is;
 - where the run has no right to the text, it ends with 8, and standard error tells which call failed and how;
-- a STORE that is there, and is longer than 128 MiB, keeps its mode, its length and what stands behind them, and is served from run to run.
+- a STORE that is there, and is longer than 128 MiB, keeps its mode, its length and what stands behind them, and is served from run to run;
+- a STORE that is a standard stream of the run, or would take the place of one that is closed, or is the program's own text, keeps each byte: the
+  run ends with 5, and standard error, where it isn't closed itself, tells which it was. The same holds where /proc isn't mounted, which is tried
+  where a process may have mounts of its own.
 
 It tells each thing that isn't so, and ends with status 1 then.
 """
@@ -33,6 +36,25 @@ ADD = b'{"op":"call","id":2,"who":"a","on":"t","tx":"add","args":[5]}\n'
 REPLIES = b'{"id":1,"ok":{"object":0}}\n', b'{"id":2,"ok":5}\n'
 # The most bytes of a text, and how many of a longer one are written at a time.
 LONGEST, PIECE = 1 << 20, 4096
+# Runs of a store `s`, by a shell: what each shows, its words and redirections, and what standard error tells of `s`; None where that is no file of ours.
+CLOSED = b"s: a standard stream of this run is closed, and the store would take its place"
+STREAM = b"s: it is the standard input, output or error of this run"
+STREAMS = [
+    ("standard input is closed", "serve TALLY s <&- 2>t", CLOSED),
+    ("standard output is closed", "serve TALLY s <lines >&- 2>t", CLOSED),
+    ("standard error is closed", "serve TALLY s <lines 2>&-", None),
+    ("all three streams are closed", "serve TALLY s <&- >&- 2>&-", None),
+    ("standard output of an audit is closed", "audit TALLY s >&- 2>t", CLOSED),
+    ("standard error of an audit is closed", "audit TALLY s 2>&-", None),
+    ("standard output is the store, to be read and written", "serve TALLY s <lines 1<>s 2>t", STREAM),
+    ("standard output is the store, to be appended to", "serve TALLY s <lines >>s 2>t", STREAM),
+    ("standard error is the store", "serve TALLY s <lines 2>>s", None),
+    ("standard input is the store", "serve TALLY s <s 2>t", STREAM),
+    ("standard output is the store by a hard link", "serve TALLY s <lines >>hard 2>t", STREAM),
+    ("standard output is the store by a symbolic link", "serve TALLY symbolic <lines >>s 2>t", STREAM.replace(b"s:", b"symbolic:")),
+]
+# The same of a store that is the text of its program.
+OTHER = b"s: another word of the command names it too"
 # How many bytes of a STORE are the program's, and what stands behind them.
 AREAS, BEHIND = 1 << 27, bytes(range(256)) * 64
 # After how many seconds a run is cut.
@@ -118,6 +140,57 @@ class Looks:
         came = self.end(self.begin("check", "p", preexec_fn=obey_rights), lines=2)
         self.want("a text to which the run has no right", (8, b"", told), came)
 
+    def shell(self, script):
+        """The status of a script that runs the program, called `obsidian`; it finds a tally's text as TALLY, and a request as `lines`."""
+        with open(self.path("lines"), "wb") as file:
+            file.write(ADD)
+        script = script.replace("TALLY", TALLY).replace("obsidian", self.program)
+        return subprocess.run(["sh", "-c", script], cwd=self.folder, stdin=subprocess.DEVNULL, timeout=PATIENCE).returncode
+
+    def read(self, name):
+        with open(self.path(name), "rb") as file:
+            return file.read()
+
+    def store_apart(self, title, status, script, told):
+        """Runs a script over a new store `s`, and wants its status, what it tells in `t`, and each byte of the store as it was."""
+        for name in ("s", "t", "hard", "symbolic"):
+            if os.path.lexists(self.path(name)):
+                os.remove(self.path(name))
+        self.end(self.begin("serve", TALLY, "s", stdin=subprocess.PIPE), NEW, 0)
+        os.link(self.path("s"), self.path("hard"))
+        os.symlink("s", self.path("symbolic"))
+        kept = self.read("s")
+        came = self.shell(script)
+        tells = [] if told is None else [line for line in self.read("t").splitlines() if line == told]
+        self.want(title, (status, [] if told is None else [told], True), (came, tells, self.read("s") == kept))
+
+    def stores_that_are_streams(self):
+        for title, words, told in STREAMS:
+            self.store_apart(title, 5, f"exec obsidian {words}", told)
+        self.store_apart("a store that is the program's text", 5, "cp TALLY p; exec obsidian serve p p <lines 2>t", OTHER.replace(b"s:", b"p:"))
+        self.want("the text stays", True, self.read("p") == open(TALLY, "rb").read())
+
+    def stores_apart_from_streams(self):
+        """A plain run, and one between pipes, over stores that are no streams."""
+        for title, script in (
+            ("a run between files", "obsidian serve TALLY s <lines >t 2>u"),
+            ("a run between pipes", "cat lines | obsidian serve TALLY s 2>u | cat >t"),
+        ):
+            if os.path.exists(self.path("s")):
+                os.remove(self.path("s"))
+            self.end(self.begin("serve", TALLY, "s", stdin=subprocess.PIPE), NEW, 0)
+            self.want(title, (0, REPLIES[1]), (self.shell(script), self.read("t")))
+
+    def store_without_proc(self):
+        """A mount of an empty folder over /proc is seen by nobody else: the script has mounts of its own."""
+        hide = "mount --make-rprivate / && mount -t tmpfs none /proc"
+        if subprocess.run(["unshare", "--mount", "sh", "-c", hide], stderr=subprocess.DEVNULL).returncode != 0:
+            print("files.py: not tried: a run without /proc, since no mounts of its own are to be had here")
+            return
+        told = b"s: /proc doesn't tell which files this run has open: No such file or directory (os error 2)"
+        script = f"exec unshare --mount sh -c '{hide} && exec obsidian serve TALLY s <lines 2>t'"
+        self.store_apart("a run without /proc", 5, script, told)
+
     def long_store(self):
         with open(self.path("s"), "wb") as file:
             os.fchmod(file.fileno(), 0o640)
@@ -150,6 +223,9 @@ def main():
         looks.writes_that_fail()
         looks.long_text()
         looks.text_without_right()
+        looks.stores_that_are_streams()
+        looks.stores_apart_from_streams()
+        looks.store_without_proc()
         looks.long_store()
     if not looks.failed:
         print("files.py: streams and files are as they should be")

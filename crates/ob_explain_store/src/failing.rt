@@ -17,7 +17,7 @@ struct Tried {
 }
 
 /// The calls.
-const TRIED: [Tried; 9] = [
+const TRIED: [Tried; 14] = [
     Tried {
         call: SystemCall::Note,
         words: "its name couldn't be noted",
@@ -31,8 +31,28 @@ const TRIED: [Tried; 9] = [
         words: "it isn't a regular file",
     },
     Tried {
+        call: SystemCall::Descriptor,
+        words: "a standard stream of this run is closed, and the store would take its place",
+    },
+    Tried {
+        call: SystemCall::Proc,
+        words: "/proc doesn't tell which files this run has open",
+    },
+    Tried {
+        call: SystemCall::Stream,
+        words: "it is the standard input, output or error of this run",
+    },
+    Tried {
+        call: SystemCall::Other,
+        words: "another word of the command names it too",
+    },
+    Tried {
         call: SystemCall::Lock,
         words: "it couldn't be locked",
+    },
+    Tried {
+        call: SystemCall::Name,
+        words: "its name means another file by now",
     },
     Tried {
         call: SystemCall::Folder,
@@ -115,9 +135,40 @@ const CURES: [Cure; 11] = [
 const LOCKED: &str =
     "another process has it: a run that serves or audits it, or `flock`. Let that one end; two never have one store.";
 
-/// What is done about what isn't a regular file.
-const IRREGULAR: &str =
-    "a store is kept in a regular file alone, and in no device, pipe or folder.";
+/// A file that is no store of this run, since what was asked of it isn't so.
+#[derive(Clone, Copy)]
+struct Unfit {
+    call: SystemCall,
+    help: &'static str,
+}
+
+/// What is done about a file that is no store of this run, by what was asked of it.
+const UNFIT: [Unfit; 5] = [
+    Unfit {
+        call: SystemCall::Kind,
+        help: "a store is kept in a regular file alone, and in no device, pipe or folder.",
+    },
+    Unfit {
+        call: SystemCall::Descriptor,
+        help: "give the run all three streams, as `</dev/null`, `>replies`, `2>/dev/null`: what is written to a stream would be written over the store.",
+    },
+    Unfit {
+        call: SystemCall::Stream,
+        help: "give the run other streams, or another store: what is written to a stream would be written over the store.",
+    },
+    Unfit {
+        call: SystemCall::Other,
+        help: "a store is kept in a file of its own: see how both names are written.",
+    },
+    Unfit {
+        call: SystemCall::Name,
+        help: "find out who moves it, and begin another run.",
+    },
+];
+
+/// What is done where the files that the run has open aren't told.
+const WITHOUT_PROC: &str =
+    "mount /proc where this run sees it: by it the run makes sure that no stream of it is the store.";
 
 /// What is done about all other errors.
 const OTHERS: &str = "look into the log of the system, as by `dmesg`: the disk may be broken.";
@@ -151,19 +202,32 @@ fn is_locked(failure: Failure) -> bool {
     failure.call == SystemCall::Lock && failure.error.kind() == io::ErrorKind::WouldBlock
 }
 
-// Whether it isn't a regular file.
-fn is_irregular(failure: Failure) -> bool {
-    failure.call == SystemCall::Kind && failure.error.kind() == io::ErrorKind::InvalidInput
+// What is done about a file that is no store of this run; None where a call of the system failed instead.
+fn unfit_of(failure: Failure) -> Option<&'static str> {
+    for row in UNFIT.iter() {
+        if row.call == failure.call && failure.error.kind() == io::ErrorKind::InvalidInput {
+            return Some(row.help);
+        }
+    }
+    None
+}
+
+// What is done about a call of the system that failed.
+fn help_with(failure: Failure) -> &'static str {
+    if is_locked(failure) {
+        LOCKED
+    } else if failure.call == SystemCall::Proc {
+        WITHOUT_PROC
+    } else {
+        cure_of(failure.error.kind())
+    }
 }
 
 // What is done about a failure.
 fn help_for(failure: Failure) -> &'static str {
-    if is_locked(failure) {
-        LOCKED
-    } else if is_irregular(failure) {
-        IRREGULAR
-    } else {
-        cure_of(failure.error.kind())
+    match unfit_of(failure) {
+        Some(help) => help,
+        None => help_with(failure),
     }
 }
 
@@ -171,7 +235,7 @@ fn help_for(failure: Failure) -> &'static str {
 fn title_of(alloc: Global, failure: Failure) -> Words {
     let mut title = Words::new(alloc);
     title.put(words_for(failure.call));
-    if is_locked(failure) || is_irregular(failure) {
+    if is_locked(failure) || unfit_of(failure).is_some() {
         return title;
     }
     let error = failure.error;

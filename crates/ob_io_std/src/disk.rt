@@ -2,6 +2,7 @@
 ghost use Rattle.std.specs.Prelude.{◌≡◌, [], Some};
 ghost use Rattle.ob_io.specs.Causes.{HasCause};
 
+use crate::apart::{apart, still_named};
 use crate::failure::{Failure, SystemCall, asked};
 use ob_base::Failed;
 use ob_disk::{Calls, Disk};
@@ -9,11 +10,13 @@ use std::alloc::Global;
 use std::os::unix::fs::{FileExt, OpenOptionsExt};
 use std::{fs, io};
 
-/// A regular file of std, locked while it is attached. Before it is attached, and after an `attach` that failed, each call fails.
+/// A regular file of std, locked while it is attached. It is no standard stream of this run, and none of the other files that the run
+/// names. Before it is attached, and after an `attach` that failed, each call fails.
 #[derive(Drop)]
-pub struct FileDisk<R> {
+pub struct FileDisk<'a, R> {
     alloc: Global,
     host: R,
+    others: &'a [&'a str],
     file: Option<fs::File>,
     faults: u64,
     calls: Calls,
@@ -60,10 +63,18 @@ fn lock(file: &fs::File) -> io::Result<()> {
     Ok(())
 }
 
-// Locks a regular file.
-fn claim(file: &fs::File) -> Result<(), Failure> {
+// Locks the regular file of this name, apart from the streams of this run and from the files of these other names.
+fn claim<R: fs::Files<File = fs::File>>(
+    alloc: Global,
+    host: &R,
+    name: &str,
+    others: &[&str],
+    file: &fs::File,
+) -> Result<(), Failure> {
     asked(SystemCall::Kind, regular(file))?;
-    asked(SystemCall::Lock, lock(file))
+    apart(alloc, host, file, others)?;
+    asked(SystemCall::Lock, lock(file))?;
+    asked(SystemCall::Name, still_named(host, name, file))
 }
 
 // Brings the names in the file's own folder to the disk for good. A file whose name isn't there is lost with all that was synced to it.
@@ -85,9 +96,10 @@ fn take<R: fs::Files<File = fs::File>>(
     alloc: Global,
     host: &R,
     name: &str,
+    others: &[&str],
 ) -> Result<fs::File, Failure> {
     let file = asked(SystemCall::Open, open(host, name))?;
-    claim(&file)?;
+    claim(alloc, host, name, others, &file)?;
     asked(SystemCall::Folder, sync_folder(alloc, host, name))?;
     Ok(file)
 }
@@ -124,11 +136,12 @@ fn sync(file: &Option<fs::File>) -> io::Result<()> {
     }
 }
 
-impl<R> FileDisk<R> {
+impl<'a, R> FileDisk<'a, R> {
     ghost use Rattle.ob_io_std.specs.Disks.{file_disk_view};
 
-    /// A disk that is yet to be attached, over the files that a runtime opens, as `&HostRuntime`.
-    pub fn new(alloc: Global, host: R) -> Self
+    /// A disk that is yet to be attached, over the files that a runtime opens, as `&HostRuntime`. `others` are the names of the other
+    /// files that the run uses: none of them is the disk. An empty name is none.
+    pub fn new(alloc: Global, host: R, others: &'a [&'a str]) -> Self
         ensures faults { (file_disk_view result).faults ≡ 0 }
         ensures attaches { (file_disk_view result).attaches ≡ Some [] }
         ensures calls { (file_disk_view result).calls ≡ 0 }
@@ -136,6 +149,7 @@ impl<R> FileDisk<R> {
         FileDisk {
             alloc,
             host,
+            others,
             file: None,
             faults: 0,
             calls: Calls::new(alloc),
@@ -174,7 +188,7 @@ impl<R> FileDisk<R> {
 }
 
 #[tactic(auto, using(crate::proofs::Untold::quiet, crate::proofs::Untold::write))]
-impl<R: fs::Files<File = fs::File>> Disk for FileDisk<R> {
+impl<'a, R: fs::Files<File = fs::File>> Disk for FileDisk<'a, R> {
     ghost use Rattle.ob_io_std.specs.Disks.{file_disk_view};
 
     ghost view = { file_disk_view };
@@ -192,7 +206,7 @@ impl<R: fs::Files<File = fs::File>> Disk for FileDisk<R> {
             return Err(Failed);
         }
         self.file = None;
-        let taken = take(self.alloc, &self.host, name);
+        let taken = take(self.alloc, &self.host, name, self.others);
         self.file = Some(self.counted(taken)?);
         Ok(())
     }

@@ -10,8 +10,18 @@ pub enum SystemCall {
     Open,
     /// Which kind of file it is; only a regular one is taken.
     Kind,
+    /// Whether a file has a number of its own, above those of the standard streams.
+    Descriptor,
+    /// Which files this run has open, by /proc.
+    Proc,
+    /// Whether a file is none of the standard streams of this run.
+    Stream,
+    /// Whether a file is none of the others that the run names.
+    Other,
     /// To lock a file.
     Lock,
+    /// Whether a name still means the file that was locked.
+    Name,
     /// To bring the names in a file's folder to the disk.
     Folder,
     /// How long a file is.

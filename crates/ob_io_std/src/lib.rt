@@ -2,6 +2,7 @@
 #![tactic(auto)]
 
 mod adapters;
+mod apart;
 mod disk;
 mod failure;
 

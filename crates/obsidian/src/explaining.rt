@@ -53,12 +53,12 @@ pub fn store_of<'a>(command: Option<Command<'a>>) -> Option<&'a str> {
     }
 }
 
-// The file of which a command has its text; empty where it has none.
-fn file_of(command: Command<'_>) -> &str {
+/// The file of which a command has its text; empty where it has none.
+pub fn file_of<'a>(command: Option<Command<'a>>) -> &'a str {
     match command {
-        Command::Check(file) | Command::Serve(file) => file,
-        Command::ServeStored(file, _) | Command::Audit(file, _) => file,
-        Command::Trial(_) => "",
+        Some(Command::Check(file) | Command::Serve(file)) => file,
+        Some(Command::ServeStored(file, _) | Command::Audit(file, _)) => file,
+        Some(Command::Trial(_)) | None => "",
     }
 }
 
@@ -72,7 +72,7 @@ fn explain_text(
     let Some(text) = &examined.text else {
         return Ok(String::new(alloc));
     };
-    let (file, seen) = (file_of(command), &examined.seen);
+    let (file, seen) = (file_of(Some(command)), &examined.seen);
     match (command, examined.fault) {
         (_, Some(fault)) => explain(alloc, file, text, fault, seen),
         (_, None) if exit == Exit::Memory => explain_memory(alloc, file, seen),
@@ -102,7 +102,7 @@ fn explain_refusal(
     alloc: Global,
     store: &str,
     examined: &Examined<'_>,
-    disk: &FileDisk<&HostRuntime>,
+    disk: &FileDisk<'_, &HostRuntime>,
 ) -> Result<String, Memory> {
     let (Some(text), Some(refusal)) = (&examined.text, examined.refusal) else {
         return Ok(String::new(alloc));
@@ -133,7 +133,7 @@ fn explain_store(
     command: Command<'_>,
     store: &str,
     examined: &Examined<'_>,
-    disk: &FileDisk<&HostRuntime>,
+    disk: &FileDisk<'_, &HostRuntime>,
     exit: Exit,
 ) -> Result<String, Memory> {
     match disk.failure() {
@@ -174,11 +174,11 @@ pub fn explain_run(
     command: Command<'_>,
     examined: &Examined<'_>,
     failure: Option<Failure>,
-    disk: &FileDisk<&HostRuntime>,
+    disk: &FileDisk<'_, &HostRuntime>,
     exit: Exit,
 ) -> Result<String, Memory> {
     match (exit, store_of(Some(command))) {
-        (Exit::FileFault, _) => explain_files(alloc, file_of(command), failure),
+        (Exit::FileFault, _) => explain_files(alloc, file_of(Some(command)), failure),
         (Exit::DiskFault | Exit::StoreRefused, Some(store)) => {
             explain_store(alloc, command, store, examined, disk, exit)
         }

@@ -6,7 +6,7 @@ mod announcing;
 mod explaining;
 
 use crate::announcing::{Announced, Announcement, Noted};
-use crate::explaining::{command_of, explain_run, explain_usage, store_of};
+use crate::explaining::{command_of, explain_run, explain_usage, file_of, store_of};
 use ob_base::Memory;
 use ob_explain_store::Watched;
 use ob_io_std::{FileDisk, StdFiles, StdSink, StdSource};
@@ -54,11 +54,12 @@ fn run_told(rt: &HostRuntime, words: &[String]) -> Exit {
     let mut examined = Examined::nothing(rt.alloc());
     examined.opened = Some(&noted.held);
     let announcement = Announcement::new(rt, store_of(command), &noted);
+    let others = [file_of(command)];
     let mut outside = Outside {
         files: StdFiles::new(rt.alloc(), rt),
         input: Announced::new(StdSource::new(rt.reader()), announcement),
         output: StdSink::new(writer(rt)),
-        disk: Watched::new(FileDisk::new(rt.alloc(), rt), &noted.front),
+        disk: Watched::new(FileDisk::new(rt.alloc(), rt, &others), &noted.front),
     };
     let exit = run(rt.alloc(), words, &mut outside, &mut examined);
     let failure = outside.files.failure();
