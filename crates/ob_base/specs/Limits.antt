@@ -41,6 +41,26 @@ most_params = 16
 unfoldable pub most_slots : ℕ
 most_slots = 128
 
+-- the most that a program may weigh, in bytes, and so the most bytes of its image
+abbrev pub most_weight : ℕ
+most_weight = 16777216
+
+-- the most instances of a program
+abbrev pub most_instances : ℕ
+most_instances = 256
+
+-- so many instances are noted: one more shows that there are too many
+abbrev pub most_noted : ℕ
+most_noted = 257
+
+-- the most bytes of text that the tree of the instances may be made of: four times the longest program
+abbrev pub most_copied : ℕ
+most_copied = 4194304
+
+-- the most bytes of text in which types are looked for, instance by instance
+abbrev pub most_walked : ℕ
+most_walked = 62914560
+
 -- the most objects of a store
 abbrev pub most_objects : ℕ
 most_objects = 1048576
@@ -53,6 +73,44 @@ most_handles = 65536
 abbrev pub longest_line : ℕ
 longest_line = 65536
 
+-- the most requests of a batch
+abbrev pub most_requests : ℕ
+most_requests = 64
+
 -- the most bytes that are taken of an input
 abbrev pub most_taken : ℕ
 most_taken = 2 ^ 40
+
+-- how many bytes each of the two areas of a store has on a disk: 64 MiB
+abbrev pub area_bytes : ℕ
+area_bytes = 67108864
+
+-- The settings of a session. The least of each is 1.
+
+-- the most units of fuel that a request may be given
+abbrev pub most_fuel : ℕ
+most_fuel = 200000
+
+-- the units of fuel that a request has where none are given
+abbrev pub default_fuel : ℕ
+default_fuel = 100000
+
+-- the most lanes
+abbrev pub most_lanes : ℕ
+most_lanes = 8
+
+-- the lanes where none are given
+abbrev pub default_lanes : ℕ
+default_lanes = 1
+
+-- the most units of a slice
+abbrev pub most_slice : ℕ
+most_slice = 1000000
+
+-- the units of a slice where none are given
+abbrev pub default_slice : ℕ
+default_slice = 1000
+
+-- the greatest length of a trial
+abbrev pub longest_trial : ℕ
+longest_trial = 20000

@@ -9,7 +9,6 @@ mod fault;
 mod fields;
 mod id;
 mod laws;
-mod limits;
 mod name;
 mod operator;
 mod permission;
@@ -31,13 +30,18 @@ pub use fault::{
 pub use fields::{FieldFault, Fields};
 pub use id::{ContractId, FieldId, ObjectId, StateId, TxId};
 pub use laws::one_field;
-pub use limits::{
-    LONGEST_LINE, LONGEST_NAME, LONGEST_PROGRAM, LONGEST_STRING, MOST_CONTRACTS, MOST_FIELDS,
-    MOST_HANDLES, MOST_OBJECTS, MOST_OPEN, MOST_PARAMS, MOST_SLOTS, MOST_STATES, MOST_TAKEN,
-    MOST_TRANSACTIONS, limits_are_defined,
-};
 pub use name::{Label, Name, NameError, Text, is_digit, is_letter, is_letter_or_digit};
 pub use operator::Operator;
 pub use permission::{Mode, NO_STATE_BIT, OTHER_STATE_BIT, Perm};
 pub use sqlite_items::{Boxed, Items};
 pub use text_error::TextError;
+
+mod limits;
+
+pub use limits::{
+    AREA_BYTES, DEFAULT_FUEL, DEFAULT_LANES, DEFAULT_SLICE, LONGEST_LINE, LONGEST_NAME,
+    LONGEST_PROGRAM, LONGEST_STRING, LONGEST_TRIAL, MOST_CONTRACTS, MOST_COPIED, MOST_FIELDS,
+    MOST_FUEL, MOST_HANDLES, MOST_INSTANCES, MOST_LANES, MOST_NOTED, MOST_OBJECTS, MOST_OPEN,
+    MOST_PARAMS, MOST_REQUESTS, MOST_SLICE, MOST_SLOTS, MOST_STATES, MOST_TAKEN, MOST_TRANSACTIONS,
+    MOST_WALKED, MOST_WEIGHT, limits_are_defined,
+};

@@ -1,6 +1,7 @@
 -- The image whose bodies are taken in their order is that of the program.
 use Rattle.std.proofs.Common.{◌≡◌, ◌≤◌, List, length, sym, ap, ◌∙◌, subst}
 use Rattle.std.specs.Prelude.{All}
+use Rattle.ob_base.specs.Limits.{most_weight}
 use Rattle.ob_table.specs.Tables.{ClassTable}
 use Rattle.ob_table_spec.specs.Conditions.{IsClassTable}
 use Rattle.ob_silica.specs.Terms.{SilicaBody}
@@ -8,7 +9,7 @@ use Rattle.ob_silica_formed.specs.WellFormedTerms.{IsWellFormedTerms}
 use Rattle.ob_code.specs.Images.{image}
 use Rattle.ob_code.specs.declared.image.Image.{Image}
 use Rattle.ob_emit_spec.specs.EmittedImages.{image_of}
-use Rattle.ob_emit_spec.specs.Weights.{weight, most_weight}
+use Rattle.ob_emit_spec.specs.Weights.{weight}
 use Rattle.ob_weight_laws.specs.Bodies.{StandInOrder, contracts_in_order}
 use Rattle.ob_weight_laws.specs.Lines.{AllLinesFit}
 use Rattle.ob_weight_laws.proofs.Order.{found_in_order}

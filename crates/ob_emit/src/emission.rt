@@ -1,13 +1,14 @@
 //! The image of a program.
 ghost use Rattle.std.specs.Prelude.{◌≡◌, ◌≤◌, map, length, All, IfOk, IfErr, OnOk};
 ghost use Rattle.ob_base.specs.Faults.{limit};
+ghost use Rattle.ob_base.specs.Limits.{most_weight};
 ghost use Rattle.ob_base.specs.TextErrors.{OnFault};
 ghost use Rattle.ob_table_spec.specs.Conditions.{IsClassTable};
 ghost use Rattle.ob_silica.specs.TermsView.{silica_body_of};
 ghost use Rattle.ob_silica_formed.specs.WellFormedTerms.{IsWellFormedTerms};
 ghost use Rattle.ob_code.specs.Images.{image};
 ghost use Rattle.ob_emit_spec.specs.EmittedImages.{image_of};
-ghost use Rattle.ob_emit_spec.specs.Weights.{weight, most_weight, text_start, IsTooHeavy};
+ghost use Rattle.ob_emit_spec.specs.Weights.{weight, text_start, IsTooHeavy};
 ghost use Rattle.ob_weight_laws.specs.Bodies.{StandInOrder};
 
 use crate::bodies::emit_image;

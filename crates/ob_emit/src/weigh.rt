@@ -1,9 +1,10 @@
 //! Whether a program weighs no more than it may. What each part weighs is taken off what is left, so that no sum grows past
 //! its type. On the way each line of the terms is read, so that it is known to have 32 bits.
 ghost use Rattle.std.specs.Prelude.{◌≡◌, ◌<◌, ◌≤◌, ◌+◌, ◌*◌, true, false, length, map, OnSome};
+ghost use Rattle.ob_base.specs.Limits.{most_weight};
 ghost use Rattle.ob_silica.specs.TermsView.{form_of, terms_of, silica_body_of};
 ghost use Rattle.ob_emit_spec.specs.Weights.{weight_of_constant, weight_of_form, weight_of_terms, weight_of_bodies};
-ghost use Rattle.ob_emit_spec.specs.Weights.{weight, most_weight};
+ghost use Rattle.ob_emit_spec.specs.Weights.{weight};
 ghost use Rattle.ob_weight_laws.specs.Counting.{size_of_text, size_of_type, size_of_param_type, size_of_result};
 ghost use Rattle.ob_weight_laws.specs.Counting.{size_of_params, size_of_states, size_of_field, size_of_fields};
 ghost use Rattle.ob_weight_laws.specs.Counting.{size_of_signature, size_of_signatures, size_of_contract, size_of_contracts};
@@ -11,12 +12,9 @@ ghost use Rattle.ob_weight_laws.specs.Counting.{size_of_table};
 ghost use Rattle.ob_weight_laws.specs.Lines.{FormLinesFit, LinesFit, AllLinesFit};
 ghost use Rattle.ob_emit.specs.Spending.{Spends};
 
-use ob_base::Name;
+use ob_base::{MOST_WEIGHT, Name};
 use ob_silica::{Constant, Form, Term, TermBody};
 use ob_table::{Contract, Field, Param, ResolvedType, Signature, Table};
-
-/// The most that a program may weigh, in bytes.
-pub const MOST_WEIGHT: usize = 16_777_216;
 
 // What a form weighs by itself.
 const FORM_WEIGHT: usize = 32;

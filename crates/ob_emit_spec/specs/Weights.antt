@@ -1,6 +1,7 @@
 -- What a program weighs: a bound on the bytes of its image that doesn't depend on how its terms are emitted (this project's own).
 use Rattle.std.specs.Prelude.{ℕ, ◌≡◌, ◌+◌, ◌*◌, ◌<◌, List, [], ◌∷◌, map, length}
 use Rattle.ob_base.specs.Faults.{limit}
+use Rattle.ob_base.specs.Limits.{most_weight}
 use Rattle.ob_base.specs.declared.fault.ProgramFault.{ProgramFault}
 use Rattle.ob_base.specs.declared.fault.Span.{Span}
 use Rattle.ob_table.specs.Tables.{ClassTable}
@@ -12,10 +13,6 @@ use Rattle.ob_code.specs.declared.image.BodyCode.{BodyCode}
 use Rattle.ob_code.specs.declared.image.ContractCode.{ContractCode}
 use Rattle.ob_code.specs.declared.image.Image.{Image}
 use Rattle.ob_emit_spec.specs.EmittedImages.{image_of}
-
--- the most that a program may weigh, in bytes
-abbrev pub most_weight : ℕ
-most_weight = 16777216
 
 -- Declarations.
 

@@ -4,6 +4,7 @@ use Rattle.std.proofs.Common.{◌≡◌, ◌≤◌, ℕ, List, [], ◌∷◌, ma
 use Rattle.std.specs.Prelude.{All, IsSomeAnd}
 use Rattle.std.proofs.lemmas.List.Elements.{All-cons}
 use Rattle.ob_table.specs.Statements.{ResolvedBody}
+use Rattle.ob_base.specs.Limits.{most_weight}
 use Rattle.ob_base.specs.declared.id.ContractId.{ContractId}
 use Rattle.ob_base.specs.declared.id.TxId.{TxId}
 use Rattle.ob_table.specs.Tables.{ClassTable, contract_at, signature_at}
@@ -23,7 +24,7 @@ use Rattle.ob_base.specs.TextErrors.{OnFault}
 use Rattle.ob_base.specs.declared.text_error.TextError.{TextError}
 use Rattle.ob_code.specs.Images.{image as image_format}
 use Rattle.ob_code.specs.declared.image.Image.{Image}
-use Rattle.ob_emit_spec.specs.Weights.{weight, most_weight, IsTooHeavy}
+use Rattle.ob_emit_spec.specs.Weights.{weight, IsTooHeavy}
 use Rattle.ob_silica.specs.TermsView.{silica_body_of}
 use Rattle.ob_silica.specs.declared.body.TermBody.{TermBody}
 use Rattle.ob_front.specs.Compiled.{IsCompiledProgram, IsSoundProgram, HasSoundCode}

@@ -2,13 +2,14 @@
 use native.Mathlib.Omega.{arith}
 use Rattle.std.proofs.Common.{ℕ, ◌≡◌, ◌≤◌, ◌<◌, suc, List, [], ◌∷◌, Some, None, map, sym, ap, ◌∙◌, subst}
 use Rattle.std.specs.Prelude.{All}
+use Rattle.ob_base.specs.Limits.{most_weight}
 use Rattle.ob_base.specs.declared.fault.ProgramFault.{ProgramFault}
 use Rattle.ob_table.specs.Tables.{ClassTable}
 use Rattle.ob_silica.specs.Terms.{SilicaBody}
 use Rattle.ob_silica.specs.TermsView.{silica_body_of}
 use Rattle.ob_silica.specs.declared.body.TermBody.{TermBody}
 use Rattle.ob_flow_spec.specs.Deriving.{Derives}
-use Rattle.ob_emit_spec.specs.Weights.{most_weight, weight, IsTooHeavy}
+use Rattle.ob_emit_spec.specs.Weights.{weight, IsTooHeavy}
 use Rattle.ob_front.specs.Stages.{HasTable, HasTableFault}
 use Rattle.std.proofs.lemmas.List.Elements.{All-cons}
 use Rattle.ob_table.specs.Statements.{ResolvedBody}

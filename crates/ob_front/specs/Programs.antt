@@ -1,10 +1,11 @@
 -- What all stages find in a text: a program whose bodies are lowered and checked, or its first fault.
 use Rattle.std.specs.Prelude.{ℕ, ◌≤◌, List, All}
+use Rattle.ob_base.specs.Limits.{most_weight}
 use Rattle.ob_base.specs.declared.fault.ProgramFault.{ProgramFault}
 use Rattle.ob_table.specs.Tables.{ClassTable}
 use Rattle.ob_silica.specs.Terms.{SilicaBody}
 use Rattle.ob_flow_spec.specs.Deriving.{Derives}
-use Rattle.ob_emit_spec.specs.Weights.{most_weight, weight, IsTooHeavy}
+use Rattle.ob_emit_spec.specs.Weights.{weight, IsTooHeavy}
 use Rattle.ob_front.specs.Lowered.{AreLoweredTo, LacksSlots}
 use Rattle.ob_front.specs.Checked.{FailsPremise}
 use Rattle.ob_front.specs.Stages.{HasTable, HasTableFault}

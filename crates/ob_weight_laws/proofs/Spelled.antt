@@ -8,7 +8,7 @@ use Rattle.std.proofs.lemmas.List.{length-map}
 use Rattle.std.proofs.lemmas.Option.{slice_get_within}
 use Rattle.std.proofs.lemmas.Str.{IsUtf8-from_is_utf8}
 use Rattle.std.proofs.Math.Nat.{le-max_left, le-max_right}
-use Rattle.ob_base.specs.Limits.{longest_string}
+use Rattle.ob_base.specs.Limits.{longest_string, most_weight}
 use Rattle.ob_base.specs.Names.{is_text}
 use Rattle.ob_base.specs.declared.id.ContractId.{ContractId}
 use Rattle.ob_base.specs.declared.id.FieldId.{FieldId}
@@ -46,7 +46,7 @@ use Rattle.ob_code.specs.declared.instruction.Instruction.{Instruction}
 use Rattle.ob_code.specs.declared.instruction.Instruction.TheVariants as does
 use Rattle.ob_emit_spec.specs.Operands.{slot_read, load, slots_read, loads, values_given, share, shares}
 use Rattle.ob_emit_spec.specs.Emission.{EmissionFrame, constant_code, unary_code, binary_code, operation_code, fetch_code, share_in_field, copy_code, move_code, result_slot, shares_of_call, shares_of_new, call_code, call_this_code, new_code, given_slots, shares_of_given, change_code, jumps_over, jump_if, after_branch, choice_code, end_test, contract_referred, share_result, return_code, after_load, turn_code, form_code, terms_code}
-use Rattle.ob_emit_spec.specs.Weights.{most_weight, weight_of_form, weight_of_terms}
+use Rattle.ob_emit_spec.specs.Weights.{weight_of_form, weight_of_terms}
 use Rattle.ob_weight_laws.specs.Lines.{FormLinesFit, LinesFit}
 use Rattle.ob_weight_laws.proofs.Declared.{size_of_code}
 use Rattle.ob_weight_laws.proofs.Few.{is_there, given_few, call_few, new_few, contract_low}

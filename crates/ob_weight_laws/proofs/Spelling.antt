@@ -3,7 +3,7 @@ use Rattle.std.proofs.Common.{◌≡◌, ◌≤◌, ◌<◌, ◌^◌, ℕ, suc, 
 use Rattle.std.specs.Prelude.{All, IsSomeAnd, IfSome, find, cond, slice_get, nat_eq}
 use Rattle.std.proofs.lemmas.Bool.{and_parts}
 use Rattle.std.proofs.Math.Nat.{le-max_right}
-use Rattle.ob_base.specs.Limits.{most_slots}
+use Rattle.ob_base.specs.Limits.{most_slots, most_weight}
 use Rattle.ob_base.specs.declared.id.ContractId.{ContractId}
 use Rattle.ob_base.specs.declared.id.TxId.{TxId}
 use Rattle.ob_table.specs.Tables.{ClassTable, contract_at, signature_at}
@@ -23,7 +23,7 @@ use Rattle.ob_format_spec.specs.Texts.{text}
 use Rattle.ob_code.specs.Images.{body, contract, image}
 use Rattle.ob_emit_spec.specs.Emission.{scratch_of_terms}
 use Rattle.ob_emit_spec.specs.EmittedImages.{tx_id, implements_code, frame_of_body, code_of_body, emitted_body, emitted_bodies, emitted_contract, emitted_contracts}
-use Rattle.ob_emit_spec.specs.Weights.{most_weight, weight_of_terms, weight_of_bodies}
+use Rattle.ob_emit_spec.specs.Weights.{weight_of_terms, weight_of_bodies}
 use Rattle.ob_weight_laws.specs.Law.{HasSpelling}
 use Rattle.ob_weight_laws.specs.Lines.{LinesFit, AllLinesFit}
 use Rattle.ob_weight_laws.proofs.Few.{bodies_few, contract_low, terms_few}

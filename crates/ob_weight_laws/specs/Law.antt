@@ -1,12 +1,13 @@
 -- What a program weighs, against the bytes of its image.
 use Rattle.std.specs.Prelude.{◌≡◌, ◌≤◌, List, length, All}
+use Rattle.ob_base.specs.Limits.{most_weight}
 use Rattle.ob_table.specs.Tables.{ClassTable}
 use Rattle.ob_table_spec.specs.Conditions.{IsClassTable}
 use Rattle.ob_silica.specs.Terms.{SilicaBody}
 use Rattle.ob_silica_formed.specs.WellFormedTerms.{IsWellFormedTerms}
 use Rattle.ob_code.specs.Images.{image}
 use Rattle.ob_emit_spec.specs.EmittedImages.{image_of}
-use Rattle.ob_emit_spec.specs.Weights.{bare_image, weight, most_weight}
+use Rattle.ob_emit_spec.specs.Weights.{bare_image, weight}
 use Rattle.ob_weight_laws.specs.Bodies.{StandInOrder}
 use Rattle.ob_weight_laws.specs.Counting.{size_of_table}
 use Rattle.ob_weight_laws.specs.Lines.{AllLinesFit}

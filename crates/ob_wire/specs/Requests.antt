@@ -5,6 +5,7 @@ use Rattle.std.specs.Str.{IsUtf8, bytes_eq}
 use Rattle.serde_json.specs.Data.{Data, null, boolean, number, string, array, object, Items, no_items, item, Members, no_members, member}
 use Rattle.serde_json.specs.Find.{get, as_number, as_i64, as_str}
 use Rattle.serde_json.specs.Read.{read}
+use Rattle.ob_base.specs.Limits.{most_requests}
 use Rattle.ob_base.specs.Names.{is_label, is_text}
 use Rattle.ob_base.specs.declared.permission.Mode.{Mode}
 use Rattle.ob_base.specs.declared.permission.Mode.TheVariants.{Owned, Shared, Unowned}
@@ -138,10 +139,6 @@ pub record IsRequest (value : Data) (request : Request) : Type 0 where
   pub who : LabelAt (codes "who") value request.who
   pub op : get (codes "op") value ≡ Some (string (word_of request.op))
   pub parts : HasParts value request.op
-
--- the most requests of a batch
-abbrev pub most_requests : ℕ
-most_requests = 64
 
 -- whether a batch may have so many requests
 abbrev pub is_batch_size : ℕ → Bool

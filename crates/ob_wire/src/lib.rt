@@ -8,9 +8,7 @@ mod reply;
 mod request;
 mod writing;
 
-pub use lines::{
-    MOST_REQUESTS, batch_limit_is_defined, incoming_is_asked, read_request, requests_are_asked,
-};
+pub use lines::{incoming_is_asked, read_request, requests_are_asked};
 pub use reading::WireError;
 pub use refusal::Refusal;
 pub use reply::{Answer, Cause, Outcome, Reply, Shown, ShownField, ShownValue};

@@ -2,17 +2,14 @@
 ghost use Rattle.std.specs.Prelude.{◌≡◌, ◌↔◌, ℕ, List, Ok, Err, Some, IfOk, IsErrOf};
 ghost use Rattle.serde_json.specs.Data.{Data};
 ghost use Rattle.serde_json.specs.View.{view, items_view};
-ghost use Rattle.ob_wire.specs.Requests.{most_requests, Asks, AsksIncoming, AsksNothing, AsksWrongCount, IsIncoming, IsNoJson, IsNoRequest, IsRequest, IsWrongCount};
+ghost use Rattle.ob_wire.specs.Requests.{Asks, AsksIncoming, AsksNothing, AsksWrongCount, IsIncoming, IsNoJson, IsNoRequest, IsRequest, IsWrongCount};
 ghost use Rattle.ob_wire.specs.Reading.{request_in, requests_in, batch_of, batch_in, one_in, incoming_in, Answers, Gives, Reads};
 
 use crate::reading::{WireError, request_in};
 use crate::request::{Incoming, Request};
-use ob_base::Items;
+use ob_base::{Items, MOST_REQUESTS};
 use serde_json::Value;
 use std::alloc::Global;
-
-/// The most requests of a batch.
-pub const MOST_REQUESTS: usize = 64;
 
 fn requests_in(alloc: Global, values: &[Value]) -> Result<Items<Request>, WireError>
     ensures { Answers result (requests_in (items_view values.now)) }
@@ -95,9 +92,4 @@ pub fn incoming_is_asked()
     ensures no_request { (value : Data) → (incoming_in value ≡ Err WireError.Shape) ↔ IsNoRequest value }
     ensures batch_size { (value : Data) → (incoming_in value ≡ Err WireError.BatchSize) ↔ IsWrongCount value }
     ensures one { (line : List ℕ) (first second : Incoming) → AsksIncoming line first → AsksIncoming line second → first ≡ second }
-{}
-
-/// The limit of the code is that of the definitions.
-pub fn batch_limit_is_defined()
-    ensures { MOST_REQUESTS ≡ most_requests }
 {}
