@@ -77,15 +77,20 @@ fn is_asked(near: &Near<'_>) -> bool {
     ["->", "in"].contains(&near.back(1)) || near.ahead(1) == "::"
 }
 
-// The states that there are.
-fn explain_states(told: &mut Explanation, site: &Site<'_>, of: &str, states: &Names) {
+// Puts the states that there are.
+fn put_states(words: &mut Words, of: &str, states: &Names) {
     put_listed(
-        &mut told.note,
+        words,
         "the states of `{}`: ",
         "`{}` has no states; `Owned`, `Shared` and `Unowned` are written so.",
         of,
         states,
     );
+}
+
+// The states that there are, and which was meant.
+fn explain_states(told: &mut Explanation, site: &Site<'_>, of: &str, states: &Names) {
+    put_states(&mut told.note, of, states);
     let name = site.near.word();
     if is_asked(&site.near) {
         put_nearest(&mut told.help, name, states);
@@ -94,14 +99,47 @@ fn explain_states(told: &mut Explanation, site: &Site<'_>, of: &str, states: &Na
     }
 }
 
+// The mode for which a name stands among states: that of the argument, if it is the permission parameter's.
+fn mode_at<'a>(site: &Site<'a>, name: &str) -> Option<&'a str> {
+    if is_asked(&site.near) {
+        return None;
+    }
+    let perm = site.within?.perm_of(name)?;
+    if HELD.contains(&perm) {
+        Some(perm)
+    } else {
+        None
+    }
+}
+
+// A mode in the place of a state, and the states that there are.
+fn explain_mode(told: &mut Explanation, name: &str, mode: &str, of: &str, states: &Names) {
+    told.what.put_with(
+        "`{}` stands for `{}` here, which is no state of `{}`",
+        &[name, mode, of],
+    );
+    put_states(&mut told.note, of, states);
+    if states.find(name.as_bytes()).is_some() {
+        told.help.put_with(
+            "give the permission parameter another name if the state `{}` is meant.",
+            &[name],
+        );
+    }
+}
+
 /// A state that a contract doesn't have.
 pub fn explain_state(told: &mut Explanation, site: &Site<'_>) {
     let name = site.near.word();
     let number = contract_of_state(site);
     let of = name_of_contract(site.types(), number);
-    told.what.put_with("`{}` has no state `{}`", &[of, name]);
-    if let Some(states) = site.types().states(number) {
-        explain_states(told, site, of, states);
+    match (mode_at(site, name), site.types().states(number)) {
+        (Some(mode), Some(states)) => explain_mode(told, name, mode, of, states),
+        (_, states) => {
+            told.what.put_with("`{}` has no state `{}`", &[of, name]);
+            if let Some(states) = states {
+                explain_states(told, site, of, states);
+            }
+        }
     }
 }
 

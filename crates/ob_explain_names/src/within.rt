@@ -84,6 +84,15 @@ impl<'a> Within<'a> {
         word_of(self.param.perm.name.as_bytes())
     }
 
+    /// The permission that a name denotes among states: that of the argument, if it is the permission parameter's.
+    pub fn perm_of(&self, name: &str) -> Option<&'a str> {
+        if name == self.perm_param() {
+            Some(self.perm)
+        } else {
+            None
+        }
+    }
+
     /// The contract or interface that a name denotes in the instance: the type parameter denotes that of the argument.
     pub fn base(&self, name: &'a str) -> &'a str {
         if name == self.param() {

@@ -1,11 +1,12 @@
 -- Without faults there are no more instances than there may be, so the limit leaves none out.
 use Rattle.std.proofs.Common.{◌≡◌, ◌≤◌, Bool, true, false, not, ◌&&◌, ◌||◌, nat_eq, nat_lt, if◌then◌else◌, List, [], ◌∷◌, ◌++◌, Option, Some, None, ◌∙◌, length, take_all, length-append, arith}
 use Rattle.std.proofs.lemmas.Bool.Decides.{nat_tests}
+use Rattle.ob_base.specs.Limits.{most_instances, most_noted}
 use Rattle.ob_table_spec.specs.Names.{in_order}
 use Rattle.ob_resolve_spec.specs.Declarations.{Program}
 use Rattle.ob_generic_spec.specs.Arguments.{Around}
 use Rattle.ob_generic_spec.specs.Uses.{Use, used}
-use Rattle.ob_generic_spec.specs.Instances.{is_known, with_needed, short_one, instance_of, type_of_use, is_long, Visit, after_visit, after_visits, visits, needed_by, instances_of, most_instances, most_noted}
+use Rattle.ob_generic_spec.specs.Instances.{is_known, with_needed, short_one, instance_of, type_of_use, is_long, Visit, after_visit, after_visits, visits, needed_by, instances_of}
 use Rattle.ob_generic_spec.specs.TypeSites.{head_sites, use_sites, visits_sites}
 use Rattle.ob_generic_spec.specs.TypeFaults.{is_one_too_many, HasNoTypeFault}
 use Rattle.ob_generic_spec.specs.declared.instance.Instance.{Instance}

@@ -4,7 +4,7 @@ use Rattle.std.specs.Prelude.{All}
 use Rattle.std.specs.List.{list_any, flat_map}
 use Rattle.std.specs.Option.{option_map_or}
 use Rattle.std.proofs.lemmas.List.Elements.{All-from_recursion}
-use Rattle.ob_base.specs.Limits.{longest_string}
+use Rattle.ob_base.specs.Limits.{longest_string, most_instances}
 use Rattle.ob_base.specs.Names.{is_text}
 use Rattle.ob_base.specs.declared.fault.Span.{Span}
 use Rattle.ob_tree.specs.Names.{Named, bare_name, name_with, Ref, ref_with}
@@ -19,7 +19,7 @@ use Rattle.ob_generic_spec.specs.Heads.{heads_of, head_named}
 use Rattle.ob_generic_spec.specs.Substitution.{Own, is_param, printed_name, written_itself, written_bare, written_in, argument_in}
 use Rattle.ob_generic_spec.specs.Arguments.{Around, refuses, names_other_state, lacks_state, is_faulty_for, is_faulty_with, is_faulty, is_faulty_argument}
 use Rattle.ob_generic_spec.specs.Uses.{Use, used, types_in_contract, uses_in_named, uses_in_argument, uses_of, uses_in_contract}
-use Rattle.ob_generic_spec.specs.Instances.{instance_with, number_named, is_long, type_of_use, Visit, visit_at, visits_at, after_visit, around_plain, around_instance, plain_visits, instance_visits, visits, instances_of, is_known, most_instances}
+use Rattle.ob_generic_spec.specs.Instances.{instance_with, number_named, is_long, type_of_use, Visit, visit_at, visits_at, after_visit, around_plain, around_instance, plain_visits, instance_visits, visits, instances_of, is_known}
 use Rattle.ob_generic_spec.specs.TypeSites.{names_argument_state, argument_state_sites, argument_perm_sites, use_sites, visits_sites}
 use Rattle.ob_generic_spec.specs.TypeFaults.{is_generic, is_own, is_one_too_many, HasNoTypeFault}
 use Rattle.ob_generic_spec.specs.TextNames.{HasTextNames, HasTextArgument, IsTextUse, HaveTextNames}

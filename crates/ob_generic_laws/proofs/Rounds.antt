@@ -1,9 +1,10 @@
 -- The rounds come to an end, and what they find is the least list of all that give nothing new.
 use Rattle.std.proofs.Common.{◌≡◌, ℕ, ◌≤◌, ◌⊎◌, inl, inr, Bool, true, false, not, ◌||◌, nat_lt, if◌then◌else◌, List, [], ◌∷◌, ◌++◌, Option, Some, None, refl, ap, sym, ◌∙◌, subst, length, take, zero, suc, append_assoc, append-nil, length-append, arith}
 use Rattle.std.specs.List.{flat_map}
+use Rattle.ob_base.specs.Limits.{most_instances, most_noted}
 use Rattle.ob_resolve_spec.specs.Declarations.{Program}
 use Rattle.ob_generic_spec.specs.Heads.{heads_of}
-use Rattle.ob_generic_spec.specs.Instances.{is_known, with_instance, with_needed, short_one, instance_of, type_of_use, Visit, after_visit, after_visits, plain_visits, instance_visits, visits, needed_by, round, rounds, instances_of, most_instances, most_noted, AreInstances}
+use Rattle.ob_generic_spec.specs.Instances.{is_known, with_instance, with_needed, short_one, instance_of, type_of_use, Visit, after_visit, after_visits, plain_visits, instance_visits, visits, needed_by, round, rounds, instances_of, AreInstances}
 use Rattle.ob_generic_spec.specs.declared.instance.Instance.{Instance}
 use Rattle.ob_generic_laws.proofs.Lists.{flat_map-append}
 use Rattle.ob_generic_laws.proofs.Prefixes.{Starts, starts_self, starts_trans, starts_full, starts_both, starts_take}

@@ -4,6 +4,7 @@ use Rattle.std.specs.List.{flat_map}
 use Rattle.std.specs.Option.{option_map_or}
 use Rattle.std.proofs.lemmas.List.{map-append}
 use Rattle.std.proofs.lemmas.List.Elements.{recursion_from_All}
+use Rattle.ob_base.specs.Limits.{most_instances}
 use Rattle.ob_tree.specs.Names.{Named, bare_name, name_with, Ref, ref_with, TypeExpr, int_type, bool_type, text_type, ref_type}
 use Rattle.ob_tree.specs.Exprs.{Expr, number_expr, text_expr, bool_expr, name_expr, this_expr, unary_expr, binary_expr, call_expr, new_expr, Call, call_with, Exprs, no_exprs, and_expr}
 use Rattle.ob_tree.specs.Stmts.{Local, int_local, bool_local, text_local, named_local, GivenExpr, Stmt, declare_stmt, assign_stmt, stage_stmt, change_stmt, call_stmt, test_stmt, if_stmt, while_stmt, return_stmt, revert_stmt, disown_stmt, assert_stmt, Block, block_with, Else, no_else, else_with, Stmts, no_stmts, and_stmt}
@@ -15,7 +16,7 @@ use Rattle.ob_resolve_spec.specs.Generics.{argument_of, argument_in_ref, argumen
 use Rattle.ob_generic_spec.specs.Heads.{heads_of}
 use Rattle.ob_generic_spec.specs.Substitution.{perm_in}
 use Rattle.ob_generic_spec.specs.Uses.{role_of_param, uses_in_contract}
-use Rattle.ob_generic_spec.specs.Instances.{visits_at, visit_at, around_plain, plain_visits, after_visits, visits, needed_by, round, rounds, instances_of, most_instances}
+use Rattle.ob_generic_spec.specs.Instances.{visits_at, visit_at, around_plain, plain_visits, after_visits, visits, needed_by, round, rounds, instances_of}
 use Rattle.ob_generic_spec.specs.InstanceTypes.{named_in, ref_in, type_in, local_in}
 use Rattle.ob_generic_spec.specs.InstanceBodies.{expr_in, call_in, exprs_in, given_in, stmt_in, block_in, else_in, stmts_in}
 use Rattle.ob_generic_spec.specs.InstanceTrees.{field_in, formal_in, listed_in, member_in, contract_in, plain_contracts, instance_contracts, instance_tree}

@@ -2,8 +2,9 @@
 use Rattle.std.proofs.Common.{◌≡◌, Bool, true, false, not, ◌||◌, nat_lt, if◌then◌else◌, List, [], ◌∷◌, ◌++◌, Option, Some, None, refl, sym, subst, length}
 use Rattle.std.specs.Prelude.{All}
 use Rattle.std.proofs.lemmas.List.Elements.{All-nil, All-push, All-take}
+use Rattle.ob_base.specs.Limits.{most_instances, most_noted}
 use Rattle.ob_resolve_spec.specs.Declarations.{Program}
-use Rattle.ob_generic_spec.specs.Instances.{is_known, with_instance, with_needed, short_one, instance_of, type_of_use, is_long, Visit, after_visit, after_visits, visits, needed_by, instances_of, most_instances, most_noted}
+use Rattle.ob_generic_spec.specs.Instances.{is_known, with_instance, with_needed, short_one, instance_of, type_of_use, is_long, Visit, after_visit, after_visits, visits, needed_by, instances_of}
 use Rattle.ob_generic_spec.specs.declared.instance.Instance.{Instance}
 use Rattle.ob_generic_laws.proofs.Rounds.{instances_needed}
 

@@ -7,7 +7,7 @@ use Rattle.std.specs.Str.{IsUtf8, IsAscii, is_utf8}
 use Rattle.std.proofs.lemmas.Str.{IsUtf8-nil, IsUtf8-append, IsUtf8-from_ascii, IsUtf8-from_is_utf8, is_utf8-from_IsUtf8}
 use Rattle.std.proofs.lemmas.Bool.Decides.{nat_tests}
 use Rattle.std.proofs.lemmas.List.Elements.{All-from_recursion, recursion_from_All}
-use Rattle.ob_base.specs.Limits.{longest_string}
+use Rattle.ob_base.specs.Limits.{longest_string, most_instances, most_noted}
 use Rattle.ob_base.specs.Names.{is_text}
 use Rattle.ob_base.specs.declared.fault.Span.{Span}
 use Rattle.ob_base.specs.declared.permission.Mode as modes
@@ -25,7 +25,7 @@ use Rattle.ob_generic_spec.specs.Heads.{heads_of}
 use Rattle.ob_generic_spec.specs.Substitution.{Own, states_at, perm_at, states_given, state_in, states_in, perm_in, printed_mode, printed_more, printed_perm, printed_name, written_itself, written_bare, written_in, argument_in}
 use Rattle.ob_generic_spec.specs.Arguments.{Around, is_faulty_with, is_faulty_argument}
 use Rattle.ob_generic_spec.specs.Uses.{Use, used, types_in_contract, uses_in_named, uses_in_argument, uses_of, uses_in_contract}
-use Rattle.ob_generic_spec.specs.Instances.{most_instances, most_noted, instance_with, number_named, instance_of, is_long, short_one, Visit, is_known, with_needed, type_of_use, after_visit, after_visits, visits_at, around_plain, own_of, around_instance, plain_visits, instance_visits, visits, needed_by, rounds, instances_of}
+use Rattle.ob_generic_spec.specs.Instances.{instance_with, number_named, instance_of, is_long, short_one, Visit, is_known, with_needed, type_of_use, after_visit, after_visits, visits_at, around_plain, own_of, around_instance, plain_visits, instance_visits, visits, needed_by, rounds, instances_of}
 use Rattle.ob_generic_spec.specs.TextNames.{HasTextStates, HasTextNames, HasTextArgument, IsTextUse, HaveTextNames}
 use Rattle.ob_generic_spec.specs.declared.head.Head.{Head}
 use Rattle.ob_generic_spec.specs.declared.instance.Argument.{Argument}
@@ -87,14 +87,14 @@ perm_at_utf8 : (span : Span) (perm : PermNode) → HasUtf8States perm → HasUtf
 perm_at_utf8 span (Mode mode old) h = tt
 perm_at_utf8 span (States states) h = at_utf8 span states h
 
-given_utf8 : (perm : PermNode) (n : NamePart) → HasUtf8States perm → IsUtf8State n → Each IsUtf8State (states_given perm n)
-given_utf8 (Mode mode span) n h k = (k, tt)
-given_utf8 (States states) n h k = at_utf8 n.span states h
-
 printed_mode_utf8 : (mode : modes.Mode) → IsUtf8 (printed_mode mode)
 printed_mode_utf8 Owned = ascii (codes "Owned") refl
 printed_mode_utf8 Shared = ascii (codes "Shared") refl
 printed_mode_utf8 Unowned = ascii (codes "Unowned") refl
+
+given_utf8 : (span : Span) (perm : PermNode) → HasUtf8States perm → Each IsUtf8State (states_given span perm)
+given_utf8 span (Mode mode old) h = (printed_mode_utf8 mode, tt)
+given_utf8 span (States states) h = at_utf8 span states h
 
 bar_utf8 : IsUtf8 (codes "|")
 bar_utf8 = ascii (codes "|") refl
@@ -156,8 +156,8 @@ HasTextOwn (Some o) = IsTextInstance o.instance
 state_in_utf8 : (o : Own) → IsTextInstance o.instance → (n : NamePart) → IsUtf8State n → Each IsUtf8State (state_in o n)
 state_in_utf8 o k n h = by (same o.param.perm.name n.name)
   where
-    by : (b : Bool) → Each IsUtf8State (if b then states_given o.instance.argument.perm n else n ∷ [])
-    by true = given_utf8 o.instance.argument.perm n k.perm h
+    by : (b : Bool) → Each IsUtf8State (if b then states_given n.span o.instance.argument.perm else n ∷ [])
+    by true = given_utf8 n.span o.instance.argument.perm k.perm
     by false = (h, tt)
 
 states_in_utf8 : (o : Own) → IsTextInstance o.instance → (states : List NamePart) → Each IsUtf8State states

@@ -3,6 +3,7 @@ ghost use Rattle.std.specs.Prelude.{◌≡◌, [], ◌∷◌, ◌++◌, flat_map
 ghost use Rattle.ob_generic_spec.specs.Substitution.{states_at, perm_at, states_given, state_in, states_in, perm_in};
 
 use crate::around::{OwnInstance, is_same};
+use crate::printing::mode_text;
 use ob_base::{Duplicate, Items, Memory, Span};
 use ob_tree::{NamePart, PermNode};
 use std::alloc::Global;
@@ -48,14 +49,18 @@ fn put_state(state: &NamePart, alloc: Global, out: &mut Items<NamePart>) -> Resu
 fn put_given(
     perm: &PermNode,
     alloc: Global,
-    state: &NamePart,
+    span: Span,
     out: &mut Items<NamePart>,
 ) -> Result<(), Memory>
-    ensures { OnOk result (out.new ≡ out.old ++ states_given perm.now state.now) }
+    ensures { OnOk result (out.new ≡ out.old ++ states_given span perm.now) }
 {
     match perm {
-        PermNode::Mode(_, _) => put_state(state, alloc, out),
-        PermNode::States(states) => put_states_at(states.as_slice(), alloc, state.span, out),
+        PermNode::Mode(mode, _) => {
+            let name = mode_text(*mode, alloc)?;
+            out.push(NamePart { name, span })?;
+            Ok(())
+        }
+        PermNode::States(states) => put_states_at(states.as_slice(), alloc, span, out),
     }
 }
 
@@ -68,7 +73,7 @@ fn put_state_in(
     ensures { OnOk result (out.new ≡ out.old ++ state_in own.now state.now) }
 {
     if is_same(own.param().perm.name.as_bytes(), state.name.as_bytes()) {
-        put_given(&own.instance().argument.perm, alloc, state, out)
+        put_given(&own.instance().argument.perm, alloc, state.span, out)
     } else {
         put_state(state, alloc, out)
     }

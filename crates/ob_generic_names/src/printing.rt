@@ -3,7 +3,7 @@ ghost use Rattle.std.specs.Prelude.{◌≡◌, ◌++◌, OnOk, IfOk};
 ghost use Rattle.ob_generic_spec.specs.Substitution.{printed_mode, printed_more, printed_perm, printed_name};
 ghost use Rattle.ob_tree.specs.declared.name.PermNode.TheVariants.{States};
 
-use ob_base::{Items, Memory, Mode};
+use ob_base::{Items, Memory, Mode, Text};
 use ob_generic_spec::Argument;
 use ob_tree::{NamePart, PermNode};
 use std::alloc::Global;
@@ -22,6 +22,18 @@ fn put_mode(mode: Mode, alloc: Global, out: &mut Items<u8>) -> Result<(), Memory
         Mode::Owned => put_bytes(b"Owned", alloc, out),
         Mode::Shared => put_bytes(b"Shared", alloc, out),
         Mode::Unowned => put_bytes(b"Unowned", alloc, out),
+    }
+}
+
+/// The word of a mode as a text.
+pub fn mode_text(mode: Mode, alloc: Global) -> Result<Text, Memory>
+    ensures { IfOk result (λ text. text ≡ printed_mode mode) }
+{
+    let mut word = Items::new(alloc);
+    put_mode(mode, alloc, &mut word)?;
+    match Text::of(alloc, word.as_slice()) {
+        Ok(text) => Ok(text),
+        Err(_) => Err(Memory),
     }
 }
 

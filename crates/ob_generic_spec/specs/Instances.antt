@@ -2,7 +2,7 @@
 -- et al., TOPLAS 42(3), 2020, on generics; their order and their number are this project's own).
 use Rattle.std.specs.Prelude.{◌≡◌, ℕ, zero, suc, Bool, not, ◌||◌, nat_lt, List, [], ◌∷◌, ◌++◌, map, flat_map, length, take, Option, Some, None, option_map, is_some, if◌then◌else◌}
 use Rattle.std.specs.Option.{option_map_or}
-use Rattle.ob_base.specs.Limits.{longest_string}
+use Rattle.ob_base.specs.Limits.{longest_string, most_instances, most_noted}
 use Rattle.ob_tree.specs.Names.{Named, bare_name, name_with}
 use Rattle.ob_tree.specs.Members.{Contract}
 use Rattle.ob_table_spec.specs.Names.{Name, is_among, number_of}
@@ -14,14 +14,6 @@ use Rattle.ob_generic_spec.specs.Uses.{Use, used, uses_in_contract}
 use Rattle.ob_generic_spec.specs.declared.head.Head.{Head}
 use Rattle.ob_generic_spec.specs.declared.instance.Argument.{Argument}
 use Rattle.ob_generic_spec.specs.declared.instance.Instance.{Instance}
-
--- the most instances of a program
-abbrev pub most_instances : ℕ
-most_instances = 256
-
--- so many are noted: one more shows that there are too many
-abbrev pub most_noted : ℕ
-most_noted = 257
 
 -- Which instance a type needs.
 

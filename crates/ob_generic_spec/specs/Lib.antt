@@ -5,6 +5,7 @@ pub mod Uses
 pub mod Instances
 pub mod TypeSites
 pub mod TypeFaults
+pub mod Copied
 pub mod InstanceTypes
 pub mod InstanceBodies
 pub mod InstanceTrees

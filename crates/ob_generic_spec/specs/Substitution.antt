@@ -25,6 +25,12 @@ pub record Own : Type 0 where
 abbrev pub is_param : Option Own → Name → Bool
 is_param own name = option_map_or (λ o. same o.param.name.name name) own false
 
+-- the word of a mode
+abbrev pub printed_mode : modes.Mode → List ℕ
+printed_mode Owned = codes "Owned"
+printed_mode Shared = codes "Shared"
+printed_mode Unowned = codes "Unowned"
+
 -- Permissions: the argument's, at the place of the permission parameter.
 
 -- states at another place
@@ -36,14 +42,16 @@ abbrev pub perm_at : Span → PermNode → PermNode
 perm_at span (Mode mode old) = Mode mode span
 perm_at span (States states) = States (states_at span states)
 
--- what a permission gives in the place of one of several states: its states; a mode gives none, and the name stays
-abbrev pub states_given : PermNode → NamePart → List NamePart
-states_given (Mode mode span) name = name ∷ []
-states_given (States states) name = states_at name.span states
+-- what a permission gives in the place of one of several states: its states, or the word of its mode, which is the name of no
+-- state
+abbrev pub states_given : Span → PermNode → List NamePart
+states_given span (Mode mode old) = record { name = printed_mode mode; span = span } ∷ []
+states_given span (States states) = states_at span states
 
 -- one of several states
 abbrev pub state_in : Own → NamePart → List NamePart
-state_in o name = if same o.param.perm.name name.name then states_given o.instance.argument.perm name else name ∷ []
+state_in o name =
+    if same o.param.perm.name name.name then states_given name.span o.instance.argument.perm else name ∷ []
 
 -- states: the permission parameter alone is any permission
 abbrev pub states_in : Own → List NamePart → PermNode
@@ -59,12 +67,6 @@ perm_in (Some o) (Mode mode span) = Mode mode span
 perm_in (Some o) (States states) = states_in o states
 
 -- Printed names: the tokens of a type, without blanks between them.
-
--- the word of a mode
-abbrev pub printed_mode : modes.Mode → List ℕ
-printed_mode Owned = codes "Owned"
-printed_mode Shared = codes "Shared"
-printed_mode Unowned = codes "Unowned"
 
 -- states after the first, each after its `|`
 abbrev pub printed_more : List NamePart → List ℕ

@@ -4,6 +4,7 @@ use Rattle.std.specs.Prelude.{◌≡◌, ℕ, Bool, true, false, not, ◌&&◌, 
 use Rattle.std.specs.Option.{option_map_or}
 use Rattle.std.specs.List.{list_any}
 use Rattle.ob_base.specs.Faults as faults
+use Rattle.ob_base.specs.Limits.{most_instances}
 use Rattle.ob_base.specs.declared.fault.ProgramFault.{ProgramFault}
 use Rattle.ob_tree.specs.Names.{bare_name, name_with}
 use Rattle.ob_tree.specs.Members.{Contract}
@@ -15,7 +16,7 @@ use Rattle.ob_generic_spec.specs.Heads.{head_named}
 use Rattle.ob_generic_spec.specs.Substitution.{Own, is_param, argument_in}
 use Rattle.ob_generic_spec.specs.Arguments.{Around, refuses, is_faulty_argument}
 use Rattle.ob_generic_spec.specs.Uses.{used}
-use Rattle.ob_generic_spec.specs.Instances.{most_instances, instance_of, is_long, is_known}
+use Rattle.ob_generic_spec.specs.Instances.{instance_of, is_long, is_known}
 use Rattle.ob_generic_spec.specs.TypeSites.{TypeSite, declares_contract, bounds_permission, names_type, passes_argument, names_argument_state, span_at_type, type_sites_of}
 use Rattle.ob_generic_spec.specs.declared.instance.Argument.{Argument}
 use Rattle.ob_generic_spec.specs.declared.instance.Instance.{Instance}

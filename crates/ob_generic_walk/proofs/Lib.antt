@@ -9,3 +9,4 @@ pub mod WalkTurns
 pub mod ContractTurns
 pub mod StageLemmas
 pub mod Steps
+pub mod CopiedLemmas

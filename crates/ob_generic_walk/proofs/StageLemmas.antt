@@ -1,8 +1,9 @@
 -- The instances one after another: each stage is the front of what it needs, and the last is all instances.
 use Rattle.std.proofs.Common.{◌≡◌, ℕ, ◌≤◌, List, [], ◌∷◌, ◌++◌, Option, Some, None, refl, ap, sym, ◌∙◌, take, zero, suc, arith}
 use Rattle.std.specs.Prelude.{slice_get}
+use Rattle.ob_base.specs.Limits.{most_instances}
 use Rattle.ob_resolve_spec.specs.Declarations.{Program}
-use Rattle.ob_generic_spec.specs.Instances.{needed_by, round, rounds, instances_of, most_instances}
+use Rattle.ob_generic_spec.specs.Instances.{needed_by, round, rounds, instances_of}
 use Rattle.ob_generic_spec.specs.declared.instance.Instance.{Instance}
 use Rattle.ob_generic_laws.proofs.Prefixes.{Starts, starts_self, starts_trans, starts_both}
 use Rattle.ob_generic_laws.proofs.Rounds.{needed_by_starts, round_starts, rounds_within}

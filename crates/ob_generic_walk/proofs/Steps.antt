@@ -2,10 +2,11 @@
 use Rattle.std.proofs.Common.{◌≡◌, ℕ, [], ◌∷◌, ◌++◌, Option, None, Some, ap, sym, ◌∙◌, ◌+◌, add-one, append-nil}
 use Rattle.std.specs.Prelude.{slice_get}
 use Rattle.std.specs.List.{flat_map}
+use Rattle.ob_base.specs.Limits.{most_instances}
 use Rattle.ob_table_spec.specs.Names.{in_order}
 use Rattle.ob_resolve_spec.specs.Declarations.{Program}
 use Rattle.ob_generic_spec.specs.Heads.{heads_of}
-use Rattle.ob_generic_spec.specs.Instances.{plain_visits, instance_visits, visits, needed_by, instances_of, most_instances}
+use Rattle.ob_generic_spec.specs.Instances.{plain_visits, instance_visits, visits, needed_by, instances_of}
 use Rattle.ob_generic_spec.specs.TypeSites.{head_sites, visits_sites, type_sites_of}
 use Rattle.ob_generic_spec.specs.TypeFaults.{least_type_fault}
 use Rattle.ob_generic_spec.specs.declared.instance.Instance.{Instance}
@@ -17,11 +18,11 @@ use Rattle.ob_generic_walk.proofs.SeenLemmas.{seen-append, seen-known, seen-leas
 use Rattle.ob_generic_walk.proofs.StageLemmas.{stage_some, stage_none, stage_last}
 
 -- what is found once the instances of a stage were gone over
-abbrev At : Program → ℕ → Found
+abbrev pub At : Program → ℕ → Found
 At program n = seen (start_of program) (visits program (stage program n))
 
 -- the instance of a number that is known is that which is needed
-needed_at : (program : Program) (n : ℕ) (f : Found) (o : Option Instance) → f ≡ At program n → o ≡ slice_get f.known n
+pub needed_at : (program : Program) (n : ℕ) (f : Found) (o : Option Instance) → f ≡ At program n → o ≡ slice_get f.known n
     → slice_get (needed_by program (stage program n)) n ≡ o
 needed_at program n f o e is =
     sym (is ∙ ap (λ k. slice_get k n)

@@ -1,70 +1,63 @@
-//! Bounds on what the instances of a program make of its text, so that a small text can't take all memory.
-ghost use Rattle.std.specs.Prelude.{◌≡◌, ◌≤◌, None, OnOk};
+//! What the instances of a program are made of, which is bounded so that a small text can't take all memory.
+ghost use Rattle.std.specs.Prelude.{◌≡◌, ◌≤◌, ◌<◌, ◌+◌, ◌-◌, ◌^◌, not, ◌&&◌, min, nat_lt, is_some, map, None, IfSome};
+ghost use Rattle.ob_base.specs.Limits.{most_copied, most_walked};
+ghost use Rattle.ob_tree.specs.MembersView.{contract_of};
+ghost use Rattle.ob_generic_spec.specs.Copied.{bytes_of_contract, count_of_states, times_copied, copied_by};
 
 use crate::found::Found;
-use ob_base::Memory;
-use ob_generic_spec::{Argument, Instance};
+use ob_base::{MOST_COPIED, MOST_WALKED};
+use ob_generic_spec::Instance;
 use ob_tree::{ContractNode, PermNode};
-
-/// The most bytes that the tree of the instances may be made of: four times the longest text.
-pub const MOST_COPIED: usize = 4 * 1024 * 1024;
-
-/// The most bytes in which types are looked for, instance by instance: more than a tree may be made of, so that a program
-/// which needs ever more instances gets its fault.
-pub const MOST_WALKED: usize = 6 * 1024 * 1024;
 
 // A printed name of so many bytes, and so many states, count as much as one more copy of the text.
 const NAME_BYTES: usize = 512;
 
 const STATES: usize = 4;
 
-// The bytes from a contract's name to its closing brace.
-fn bytes_of(node: &ContractNode) -> usize {
+fn bytes_of_contract(node: &ContractNode) -> usize
+    ensures { result ≡ bytes_of_contract (contract_of node.now) }
+{
     node.end.end.saturating_sub(node.span.start) as usize
 }
 
-// How many states stand in the place of a permission parameter: none for a mode.
-fn count_of_states(argument: &Argument) -> usize {
-    match &argument.perm {
+fn count_of_states(perm: &PermNode) -> usize
+    ensures { result ≡ count_of_states perm.now }
+{
+    match perm {
         PermNode::Mode(_, _) => 0,
         PermNode::States(states) => states.len(),
     }
 }
 
-// What an instance is made of: its generic contract's text, as often as names and states in it may become longer.
-fn copied_by(nodes: &[ContractNode], instance: &Instance) -> usize {
+fn times_copied(instance: &Instance) -> usize
+    ensures { result ≡ times_copied instance.now }
+{
+    1 + count_of_states(&instance.argument.perm) / STATES + instance.name.len() / NAME_BYTES
+}
+
+// The bytes that an instance is made of, up to the end of the type.
+fn copied_by(nodes: &[ContractNode], instance: &Instance) -> usize
+    ensures { result ≡ min (copied_by (map contract_of nodes.now) instance.now) (2 ^ 64 - 1) }
+{
     match nodes.get(instance.contract) {
         None => 0,
-        Some(node) => {
-            let more = (count_of_states(&instance.argument) / STATES).saturating_add(
-                instance.name.len() / NAME_BYTES,
-            );
-            bytes_of(node).saturating_mul(more.saturating_add(1))
-        }
+        Some(node) => bytes_of_contract(node).saturating_mul(times_copied(instance)),
     }
 }
 
-/// Counts one more instance: `Memory` if a walk over that is too much.
-pub fn count_copied(
-    nodes: &[ContractNode],
-    instance: &Instance,
-    copied: &mut usize,
-) -> Result<(), Memory>
-    ensures { OnOk result (copied.new ≤ MOST_WALKED) }
+/// The bytes that one more instance is made of, and those that were counted; None where that is too much to look through.
+pub fn count_copied(nodes: &[ContractNode], instance: &Instance, copied: usize) -> Option<usize>
+    ensures counted { IfSome result (λ sum. sum ≡ copied + copied_by (map contract_of nodes.now) instance.now) }
+    ensures within { IfSome result (λ sum. sum ≤ most_walked) }
+    ensures too_much { result ≡ None → most_walked < copied + copied_by (map contract_of nodes.now) instance.now }
 {
-    *copied = copied.saturating_add(copied_by(nodes, instance));
-    if *copied > MOST_WALKED {
-        return Err(Memory);
-    }
-    Ok(())
+    let sum = copied.saturating_add(copied_by(nodes, instance));
+    if sum > MOST_WALKED { None } else { Some(sum) }
 }
 
-/// `Memory` if a tree of so much is too much. A program with a fault has no tree.
-pub fn bound_tree(found: &Found, copied: usize) -> Result<(), Memory>
-    ensures { found.now.least ≡ None → OnOk result (copied ≤ MOST_COPIED) }
+/// Whether a tree would be made of so many bytes, and of too many. A program with a fault has no tree.
+pub fn is_too_large(found: &Found, copied: usize) -> bool
+    ensures { result ≡ (not (is_some found.now.least) && nat_lt most_copied copied) }
 {
-    if found.least.is_none() && copied > MOST_COPIED {
-        return Err(Memory);
-    }
-    Ok(())
+    found.least.is_none() && copied > MOST_COPIED
 }

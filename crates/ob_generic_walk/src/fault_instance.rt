@@ -1,9 +1,9 @@
 //! The instance in which a fault of types is met.
 use crate::declaring::declare;
+use crate::error::WalkError;
 use crate::finding::{copy_at, walk_counted, walk_first};
 use crate::found::Found;
-use crate::known::MOST_INSTANCES;
-use ob_base::{Items, Memory, ProgramFault};
+use ob_base::{Items, MOST_INSTANCES, ProgramFault};
 use ob_tree::ContractNode;
 use std::alloc::Global;
 
@@ -35,7 +35,7 @@ pub fn instance_of_fault(
     nodes: &[ContractNode],
     alloc: Global,
     fault: ProgramFault,
-) -> Result<InstanceOfFault, Memory> {
+) -> Result<InstanceOfFault, WalkError> {
     let heads = declare(nodes, alloc)?;
     let mut found = walk_first(nodes, alloc, &heads)?;
     if is_found(&found, fault) {

@@ -4,17 +4,11 @@ ghost use Rattle.std.specs.Option.{option_copied};
 ghost use Rattle.ob_resolve_scope.specs.Numbered.{numbered};
 ghost use Rattle.ob_generic_spec.specs.Instances.{is_known, with_instance};
 
-use ob_base::{Items, Memory};
+use ob_base::{Items, MOST_NOTED, Memory};
 use ob_generic_spec::Instance;
 use ob_resolve_scope::Names;
 use std::alloc::Global;
 use std::marker::Model;
-
-/// The most instances of a program.
-pub const MOST_INSTANCES: usize = 256;
-
-// So many are noted: one more shows that there are too many.
-const MOST_NOTED: usize = 257;
 
 /// Instances in the order in which they were first needed, by their printed names.
 #[derive(Drop)]

@@ -4,6 +4,7 @@
 mod contracts;
 mod copied;
 mod declaring;
+mod error;
 mod expressions;
 mod fault_instance;
 mod finding;
@@ -15,6 +16,7 @@ mod statements;
 mod type_notes;
 mod visiting;
 
+pub use error::WalkError;
 pub use fault_instance::{InstanceOfFault, instance_of_fault};
 pub use finding::find;
 pub use found::Found;

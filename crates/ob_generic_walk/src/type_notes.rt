@@ -9,8 +9,10 @@ ghost use Rattle.ob_generic_spec.specs.TypeSites.{names_argument_state, argument
 ghost use Rattle.ob_generic_spec.specs.TypeFaults.{is_nothing, is_generic, takes_nothing, is_own, is_in_argument, is_one_too_many};
 ghost use Rattle.ob_generic_walk.specs.Noted.{noted, noted_at};
 
-use crate::known::{Known, MOST_INSTANCES};
-use ob_base::{LONGEST_STRING, NO_STATE, PARAM_COUNT, Span, TOO_MANY_INSTANCES, UNKNOWN_NAME};
+use crate::known::Known;
+use ob_base::{
+    LONGEST_STRING, MOST_INSTANCES, NO_STATE, PARAM_COUNT, Span, TOO_MANY_INSTANCES, UNKNOWN_NAME,
+};
 use ob_generic_names::{AroundType, Heads, is_generic, is_nothing, is_own, takes_nothing};
 use ob_generic_spec::{Argument, Instance, Role};
 use ob_resolve_sites::{Least, note_if};
