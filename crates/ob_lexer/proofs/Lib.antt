@@ -11,6 +11,8 @@ pub mod StringSteps
 pub mod FirstSteps
 pub mod Taking
 pub mod PlaceLemmas
+pub mod PlainTokens
+pub mod Ascii
 pub mod Progress
 pub mod Found
 pub mod Readings

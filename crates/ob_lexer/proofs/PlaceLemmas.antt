@@ -1,13 +1,13 @@
 -- The position after bytes, byte by byte.
-use Rattle.std.proofs.Common.{ℕ, ◌≡◌, ◌+◌, ◌≤◌, Bool, false, not, cond, List, [], ◌∷◌, ◌++◌, length, fold, reverse, inl, inr, refl, sym, ap, ◌∙◌, arith, append_assoc, append-nil, length-append}
-use Rattle.std.specs.List.{take_while, count_by}
-use Rattle.std.proofs.lemmas.Bool.{cases_Bool}
+use Rattle.std.proofs.Common.{ℕ, ◌≡◌, ◌+◌, ◌≤◌, Bool, true, false, not, ◌&&◌, cond, IsTrue, List, [], ◌∷◌, ◌++◌, length, fold, reverse, inl, inr, refl, sym, ap, ◌∙◌, arith, append_assoc, append-nil, length-append, add-zero}
+use Rattle.std.specs.List.{take_while, count_by, list_all}
+use Rattle.std.proofs.lemmas.Bool.{and_parts, cases_Bool}
 use Rattle.std.proofs.lemmas.List.{reverse-append, length-reverse}
 use Rattle.std.proofs.lemmas.List.Sums.{sum_by-append, sum_by-cons, count_by-le-length, take_while-cons, prefix_len-le-length}
 use Rattle.std.proofs.lemmas.List.Folds.{length-prefix_len}
 use Rattle.ob_lexer.specs.declared.position.Position.{Position}
 use Rattle.ob_lexer.specs.Spans.{is_newline, begins_character, newlines, back_to_newline, line_after, column_after}
-use Rattle.ob_lexer.specs.Lexing.{past, position_after}
+use Rattle.ob_lexer.specs.Lexing.{past, along, position_after}
 
 abbrev is_on : ℕ → Bool
 is_on b = not (is_newline b)
@@ -63,3 +63,27 @@ back_within before =
 pub column_within : (before : List ℕ) → column_after before ≤ length before + 1
 column_within before =
     omega (arith, count_by-le-length begins_character (back_to_newline before), back_within before)
+
+-- ---- characters of one byte on one line
+
+-- a byte that is a character, and no newline
+abbrev pub is_plain : ℕ → Bool
+is_plain b = begins_character b && not (is_newline b)
+
+past-plain : (p : Position) (b : ℕ) → is_plain b ≡ true → past p b ≡ along p 1
+past-plain p b plain =
+    let parts = and_parts (begins_character b) (not (is_newline b)) plain in
+    let isnt : is_newline b ≡ false = elim (cases_Bool (is_newline b)) [
+      | inl is ↦ let no : false ≡ true = rw is at parts.1 in absurd cc
+      | inr isnt ↦ isnt
+    ] in
+    rw (isnt, parts.0) refl
+
+pub fold-plain : (p : Position) (bytes : List ℕ) → IsTrue (list_all is_plain bytes) → fold past p bytes ≡ along p (length bytes)
+fold-plain p [] plain = λ i. record { offset = sym (add-zero p.offset) i; line = p.line; column = sym (add-zero p.column) i }
+fold-plain p (b ∷ bytes) plain =
+    let parts = and_parts (is_plain b) (list_all is_plain bytes) plain in
+    let first : past p b ≡ along p 1 = past-plain p b parts.0 in
+    let offset : (p.offset + 1) + length bytes ≡ p.offset + length (b ∷ bytes) = omega arith in
+    let column : (p.column + 1) + length bytes ≡ p.column + length (b ∷ bytes) = omega arith in
+    ap (λ (q : Position). fold past q bytes) first ∙ fold-plain (along p 1) bytes parts.1 ∙ (λ i. record { offset = offset i; line = p.line; column = column i })

@@ -1,5 +1,5 @@
 -- Each reserved word has a spelling of its own.
-use Rattle.std.proofs.Common.{ℕ, ◌≡◌, ◌≤◌, List, length, arith, [], ◌∷◌, Some, None, inl, inr, refl, sym, ap, ◌∙◌, IsTrue}
+use Rattle.std.proofs.Common.{ℕ, ◌≡◌, ◌≤◌, List, length, arith, true, false, [], ◌∷◌, Option, Some, None, inl, inr, refl, sym, ap, ◌∙◌, IsTrue}
 use Rattle.std.proofs.lemmas.Bool.{cases_Bool}
 use Rattle.std.proofs.lemmas.Slice.Eq.{bytes_eq-Decides}
 use Rattle.std.specs.Str.{bytes_eq}
@@ -8,7 +8,7 @@ use Rattle.ob_base.specs.Names.{is_word}
 use Rattle.ob_lexer.specs.declared.token.Word.{Word}
 use Rattle.ob_lexer.specs.declared.token.Word.TheVariants as word
 use Rattle.ob_lexer.specs.Spelling.{spelling_of_word, IsReserved}
-use Rattle.ob_lexer.specs.Lexing.{word_among, words, word_of}
+use Rattle.ob_lexer.specs.Lexing.{word_among, words, word_of, candidate}
 
 among-Some : (among : List Word) (bytes : List ℕ) (w : Word) → word_among among bytes ≡ Some w → bytes ≡ spelling_of_word w
 among-Some [] bytes w e = absurd cc
@@ -77,3 +77,65 @@ word_is_word w = (spelled w).1
 -- no reserved word is long
 pub word_is_short : (w : Word) → length (spelling_of_word w) ≤ longest_name
 word_is_short w = (spelled w).2
+
+-- each reserved word is the candidate of its spelling
+candidate-spelling : (w : Word) → candidate (spelling_of_word w) ≡ Some w
+candidate-spelling word.Contract = refl
+candidate-spelling word.Asset = refl
+candidate-spelling word.Main = refl
+candidate-spelling word.Interface = refl
+candidate-spelling word.Implements = refl
+candidate-spelling word.State = refl
+candidate-spelling word.Transaction = refl
+candidate-spelling word.Private = refl
+candidate-spelling word.Returns = refl
+candidate-spelling word.Available = refl
+candidate-spelling word.In = refl
+candidate-spelling word.If = refl
+candidate-spelling word.Else = refl
+candidate-spelling word.While = refl
+candidate-spelling word.Return = refl
+candidate-spelling word.Revert = refl
+candidate-spelling word.Disown = refl
+candidate-spelling word.New = refl
+candidate-spelling word.This = refl
+candidate-spelling word.True = refl
+candidate-spelling word.False = refl
+candidate-spelling word.Int = refl
+candidate-spelling word.Bool = refl
+candidate-spelling word.String = refl
+candidate-spelling word.Owned = refl
+candidate-spelling word.Unowned = refl
+candidate-spelling word.Shared = refl
+candidate-spelling word.Where = refl
+candidate-spelling word.Is = refl
+
+-- so a reserved word is the candidate
+pub is_candidate : (bytes : List ℕ) (w : Word) → word_of bytes ≡ Some w → candidate bytes ≡ Some w
+is_candidate bytes w e = ap candidate (word_of-Some bytes w e) ∙ candidate-spelling w
+
+-- where there is no candidate, there is no reserved word
+pub no_candidate : (bytes : List ℕ) → candidate bytes ≡ None → None ≡ word_of bytes
+no_candidate bytes none = elim (word_of bytes) as (λ (o : Option Word). word_of bytes ≡ o → None ≡ o) [
+  | None ↦ λ e. refl
+  | Some w ↦ λ e. let some : None ≡ Some w = sym none ∙ is_candidate bytes w e in absurd cc
+] refl
+
+module _ (bytes spelling : List ℕ) (w : Word) (same : spelling ≡ spelling_of_word w) where
+  -- where the candidate is spelled otherwise, there is none
+  pub other_candidate : candidate bytes ≡ Some w → bytes_eq spelling bytes ≡ false → None ≡ word_of bytes
+  other_candidate is other = elim (word_of bytes) as (λ (o : Option Word). word_of bytes ≡ o → None ≡ o) [
+    | None ↦ λ e. refl
+    | Some v ↦ λ e.
+        let both : Some v ≡ Some w = sym (is_candidate bytes v e) ∙ is in
+        let found : v ≡ w = cc in
+        let spelled : spelling ≡ bytes = same ∙ ap spelling_of_word (sym found) ∙ sym (word_of-Some bytes v e) in
+        let no : false ≡ true = sym other ∙ (bytes_eq-Decides spelling bytes).1 spelled in
+        absurd cc
+  ] refl
+
+  -- and where it is spelled so, it is the one
+  pub spelled_candidate : bytes_eq spelling bytes ≡ true → Some w ≡ word_of bytes
+  spelled_candidate is =
+      let spelled : bytes ≡ spelling_of_word w = sym ((bytes_eq-Decides spelling bytes).0 is) ∙ same in
+      sym (ap word_of spelled ∙ word_of-spelling w)

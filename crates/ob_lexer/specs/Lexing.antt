@@ -1,5 +1,5 @@
 -- What the steps of the lexer answer.
-use Rattle.std.specs.Prelude.{ℕ, ℤ, pos, ◌+◌, ◌^◌, ◌==◌, ◌&&◌, nat_lt, nat_le, not, if◌then◌else◌, Bool, true, false, List, [], ◌∷◌, ◌++◌, length, Option, Some, None}
+use Rattle.std.specs.Prelude.{ℕ, ℤ, pos, ◌+◌, ◌^◌, ◌==◌, ◌&&◌, nat_lt, nat_le, not, if◌then◌else◌, Bool, true, false, List, [], ◌∷◌, ◌++◌, length, slice_index, Option, Some, None}
 use Rattle.std.specs.List.{find, prefix_len, take_while}
 use Rattle.std.specs.Str.{bytes_eq}
 use Rattle.ob_base.specs.Limits.{longest_string}
@@ -35,6 +35,47 @@ word_among among bytes = find (λ w. bytes_eq (spelling_of_word w) bytes) among
 -- the reserved word that is spelled so
 unfoldable pub word_of : List ℕ → Option Word
 word_of bytes = word_among words bytes
+
+-- The only reserved word that bytes may be, by how many they are and one letter of them: two bytes by their second.
+abbrev pub word_of_two : ℕ → Option Word
+word_of_two b = if b == 110 then Some word.In else (if b == 102 then Some word.If else (if b == 115 then Some word.Is else None))
+
+-- three by their second
+abbrev pub word_of_three : ℕ → Option Word
+word_of_three b = if b == 101 then Some word.New else (if b == 110 then Some word.Int else None)
+
+-- four by their second
+abbrev pub word_of_four : ℕ → Option Word
+word_of_four b =
+    if b == 97 then Some word.Main else (if b == 108 then Some word.Else else (if b == 104 then Some word.This else (if b == 114 then Some word.True else (if b == 111 then Some word.Bool else None))))
+
+-- five by their third
+abbrev pub word_of_five : ℕ → Option Word
+word_of_five b =
+    if b == 115 then Some word.Asset else (if b == 97 then Some word.State else (if b == 105 then Some word.While else (if b == 108 then Some word.False else (if b == 110 then Some word.Owned else (if b == 101 then Some word.Where else None)))))
+
+-- six by their third
+abbrev pub word_of_six : ℕ → Option Word
+word_of_six b =
+    if b == 116 then Some word.Return else (if b == 118 then Some word.Revert else (if b == 115 then Some word.Disown else (if b == 114 then Some word.String else (if b == 97 then Some word.Shared else None))))
+
+-- seven by their third
+abbrev pub word_of_seven : ℕ → Option Word
+word_of_seven b =
+    if b == 105 then Some word.Private else (if b == 116 then Some word.Returns else (if b == 111 then Some word.Unowned else None))
+
+-- nine by their third
+abbrev pub word_of_nine : ℕ → Option Word
+word_of_nine b = if b == 116 then Some word.Interface else (if b == 97 then Some word.Available else None)
+
+-- the only reserved word that bytes may be, where there are so many of them and these are their second and third
+abbrev pub candidate_in : ℕ → ℕ → ℕ → Option Word
+candidate_in count second third =
+    if count == 2 then word_of_two second else (if count == 3 then word_of_three second else (if count == 4 then word_of_four second else (if count == 5 then word_of_five third else (if count == 6 then word_of_six third else (if count == 7 then word_of_seven third else (if count == 8 then Some word.Contract else (if count == 9 then word_of_nine third else (if count == 10 then Some word.Implements else (if count == 11 then Some word.Transaction else None)))))))))
+
+-- the only reserved word that these bytes may be
+abbrev pub candidate : List ℕ → Option Word
+candidate bytes = candidate_in (length bytes) (slice_index bytes 1) (slice_index bytes 2)
 
 -- the sign of two bytes
 abbrev pub pair_of : ℕ → ℕ → Option Sign
@@ -141,12 +182,22 @@ step_in class.Other b rest = sign_step b rest
 abbrev pub first_step : ℕ → List ℕ → Step
 first_step b rest = step_in (class_of b) b rest
 
+-- ---- ASCII
+
+-- the larger of two numbers
+abbrev pub larger : ℕ → ℕ → ℕ
+larger m n = if nat_lt m n then n else m
+
 -- ---- positions
 
 -- the position after one byte more
 abbrev pub past : Position → ℕ → Position
 past p b =
     if is_newline b then record { offset = p.offset + 1; line = p.line + 1; column = 1 } else (if begins_character b then record { offset = p.offset + 1; line = p.line; column = p.column + 1 } else record { offset = p.offset + 1; line = p.line; column = p.column })
+
+-- the position after so many characters of one byte each on the same line
+abbrev pub along : Position → ℕ → Position
+along p count = record { offset = p.offset + count; line = p.line; column = p.column + count }
 
 -- the position after these bytes
 abbrev pub position_after : List ℕ → Position

@@ -25,7 +25,7 @@ pub enum Class {
     Other,
 }
 
-fn is_blank(byte: u8) -> bool
+pub fn is_blank(byte: u8) -> bool
     ensures { result ≡ is_blank byte }
 {
     matches!(byte, b' ' | b'\t' | b'\r' | b'\n')

@@ -1,6 +1,6 @@
 //! Places in a text.
 ghost use Rattle.std.specs.Prelude.{◌≡◌, ◌+◌, ◌<◌, ◌≤◌, ◌^◌, length, fold};
-ghost use Rattle.ob_lexer.specs.Lexing.{past};
+ghost use Rattle.ob_lexer.specs.Lexing.{past, along};
 
 use crate::bytes::begins_character;
 use ob_base::Span;
@@ -24,7 +24,8 @@ impl Position {
         column: 1,
     };
 
-    fn past(self, byte: u8) -> Position
+    /// The position after one byte more.
+    pub fn past(self, byte: u8) -> Position
         requires offset { self.offset + 1 < 2 ^ 31 }
         requires line { self.line ≤ self.offset + 1 }
         requires column { self.column ≤ self.offset + 1 }
@@ -71,6 +72,19 @@ impl Position {
             position = position.past(*byte);
         }
         position
+    }
+
+    /// The position after so many characters of one byte each on the same line.
+    pub fn along(self, count: usize) -> Position
+        requires offset { self.offset + count < 2 ^ 31 }
+        requires column { self.column ≤ self.offset + 1 }
+        ensures { result ≡ along self count }
+    {
+        Position {
+            offset: self.offset + count as u32,
+            line: self.line,
+            column: self.column + count as u32,
+        }
     }
 
     /// So many bytes at this position.
