@@ -1,5 +1,5 @@
 -- What a turn answers.
-use Rattle.std.proofs.Common.{◌≡◌, ℕ, zero, suc, ◌+◌, ◌<◌, Bool, true, false, ◌&&◌, List, [], ◌∷◌, length, Option, Some, None, refl, sym, ap, ◌∙◌, subst, arith}
+use Rattle.std.proofs.Common.{◌≡◌, ℕ, zero, suc, ◌+◌, ◌<◌, Bool, true, false, ◌&&◌, List, [], ◌∷◌, length, Option, Some, None, refl, sym, ap, ◌∙◌, subst, arith, true≢false}
 use Rattle.std.proofs.lemmas.Bool.{ltb-true}
 use Rattle.std.proofs.lemmas.Bool.Decides.{Decides-eqb}
 use Rattle.std.specs.Prelude.{ℤ, nat_eq, nat_lt, slice_get, if◌then◌else◌}
@@ -16,9 +16,9 @@ use Rattle.ob_lanes_laws.specs.Schedule.{is_done, may_start, with_lane, starts, 
 use Rattle.ob_lanes_laws.specs.Schedule as schedule
 use Rattle.ob_lanes_laws.specs.Requests.{has_ended}
 use Rattle.ob_lanes_laws.specs.Turns.{first_start, started, turned, next_lane, is_answered, are_done_from}
-use Rattle.ob_lanes_laws.proofs.Keeping.{none_is_some, some_same, differ}
+use Rattle.ob_lanes_laws.proofs.Keeping.{none_is_some, some_same, both_true, differ}
 use Rattle.ob_lanes.specs.Starting.{are_all_done}
-use Rattle.ob_lanes.specs.Standing.{Fits, rules_on, BusyLane, State, IsLane, requests_of, LanesRepresent, NoneHasEnded, EndsAlone, OthersGoOn, Tells, LaneTells, HadTurn, CanTurn, TurnComesTo, Answers, Turned}
+use Rattle.ob_lanes.specs.Standing.{Fits, rules_on, BusyLane, State, IsLane, requests_of, LanesRepresent, NoneHasEnded, EndsAlone, OthersGoOn, AreIdle, Tells, LaneTells, HadTurn, CanTurn, TurnComesTo, Answers, Turned}
 use Rattle.ob_lanes.specs.declared.batch.Busy.{Busy}
 use Rattle.ob_lanes.specs.declared.batch.BatchRequest.{BatchRequest}
 use Rattle.ob_lanes.specs.declared.lanes.Lanes.{Lanes}
@@ -94,12 +94,24 @@ done_from k (e ∷ es) l h =
 pub all_done : (image : Image) (fuel : ℕ) (base : Stored) (entries : List BatchRequest) (lanes : List (Option Busy)) (l : State) → LanesRepresent image fuel base entries lanes l → are_all_done entries ≡ is_answered (requests_of entries) l
 all_done image fuel base entries lanes l h = done_from 0 entries l (λ i e f. ap (λ n. is_done n l.done) (omega arith) ∙ h.done i e f)
 
+-- where all is answered, so is the request of each entry
+done_each : (entries : List BatchRequest) (n : ℕ) (e : BatchRequest) → are_all_done entries ≡ true → slice_get entries n ≡ Some e → e.is_done ≡ true
+done_each [] n e h f = absurd (none_is_some f)
+done_each (x ∷ xs) zero e h f = ap (λ (y : BatchRequest). y.is_done) (sym (some_same x e f)) ∙ (both_true x.is_done (are_all_done xs) h).0
+done_each (x ∷ xs) (suc n) e h f = done_each xs n e (both_true x.is_done (are_all_done xs) h).1 f
+
+-- then no lane is busy
+idle_then : (image : Image) (fuel : ℕ) (base : Stored) (entries : List BatchRequest) (lanes : List (Option Busy)) (l : State) → LanesRepresent image fuel base entries lanes l → are_all_done entries ≡ true → AreIdle l
+idle_then image fuel base entries lanes l h all k b at =
+    let e = entry_at image fuel base entries lanes l k b h at in
+    true≢false (sym (done_each entries b.number e.entry all e.is) ∙ sym (h.done b.number e.entry e.is) ∙ h.own.unanswered k b at)
+
 -- The answer.
 
 going_so : (base : Stored) (batch : List Request) (entries : List BatchRequest) (k : ℕ) (l : State) (b : Bool) (turn : Turn) (next : ℕ) → turn ≡ (if b then Done else Going) → next ≡ next_lane (length l.lanes) k → NoneHasEnded l → is_answered batch l ≡ b
-    → Answers base batch entries k l turn next
-going_so base batch entries k l true turn next t n g a = subst (λ x. Answers base batch entries k l x next) (sym t) (g, a, n)
-going_so base batch entries k l false turn next t n g a = subst (λ x. Answers base batch entries k l x next) (sym t) (g, a, n)
+    → (b ≡ true → AreIdle l) → Answers base batch entries k l turn next
+going_so base batch entries k l true turn next t n g a idle = subst (λ x. Answers base batch entries k l x next) (sym t) (g, a, n, idle refl)
+going_so base batch entries k l false turn next t n g a idle = subst (λ x. Answers base batch entries k l x next) (sym t) (g, a, n)
 
 -- by what the slice of the lane has led to
 pub answers_so : (image : Image) (fuel : ℕ) (base : Stored) (mid : Lanes) (l : State) (outcome : SliceOutcome) (turn : Turn) (next : ℕ) → LanesRepresent image fuel base mid.entries.items mid.lanes.items l → OthersGoOn mid.next l
@@ -111,6 +123,7 @@ answers_so image fuel base mid l slice_outcome.Paused turn next h o t g =
     going_so base (requests_of mid.entries.items) mid.entries.items mid.next l (are_all_done mid.entries.items) turn next g.0
     (g.1 ∙ ap (λ n. next_lane n mid.next) (pair_length image fuel base mid.entries.items mid.lanes.items l.lanes h.each))
     (none_ends image fuel base mid.entries.items mid.lanes.items mid.next l h o t) (sym (all_done image fuel base mid.entries.items mid.lanes.items l h))
+    (λ all. idle_then image fuel base mid.entries.items mid.lanes.items l h all)
 
 pub next_within : (count k : ℕ) → k < count → next_lane count k < count
 next_within count k h = by (nat_lt (k + 1) count) refl

@@ -30,6 +30,7 @@ use Rattle.ob_lanes.specs.declared.batch.Busy.{Busy}
 use Rattle.ob_lanes.specs.declared.batch.BatchRequest.{BatchRequest}
 use Rattle.ob_lanes.proofs.Standing.{Pair, beyond, within, pair_at, pair_set, set_length, index_get, get_map}
 use Rattle.ob_lanes.proofs.Answering.{same_or, eq_itself, next_within}
+use Rattle.ob_lanes.proofs.Own.{own_committed}
 use Rattle.ob_lanes.proofs.Committing.{run_is, Setting, answered_get, answered_here, answered_stays, answered_requests, lanes_moved, rest_goes, none_after}
 
 -- the commit takes place
@@ -73,7 +74,7 @@ pub commit_stands : (fits : Fits) (image : Image) (fuel : ℕ) (before after : S
     → LanesRepresent image fuel after (answered_in (Some b) entries) (lanes_after before delta k lanes) (committed_by fits image fuel (requests_of entries) k l) × NoneHasEnded (committed_by fits image fuel (requests_of entries) k l)
 commit_stands fits image fuel before after delta entries lanes l k s b ahead keeps rest differs labelled h at alone i store =
     subst (λ x. LanesRepresent image fuel after (answered_in (Some b) entries) (lanes_after before delta k lanes) x × NoneHasEnded x) (sym its)
-    (record { store = there; done = λ n x f. done_after n s.number b entries i.entry x (λ m. is_done m l.done) i.number i.entry_is h.done f; each = moved }, goes)
+    (record { store = there; done = λ n x f. done_after n s.number b entries i.entry x (λ m. is_done m l.done) i.number i.entry_is h.done f; each = moved; own = own_committed fits image fuel l k s at h.own }, goes)
   where
     its : committed_by fits image fuel (requests_of entries) k l ≡ committed (rules_on fits image fuel) k s l
     its = commit_is fits image fuel (requests_of entries) k l s at alone

@@ -6,7 +6,7 @@ use Rattle.ob_code.specs.declared.image.Image.{Image}
 use Rattle.ob_wire.specs.Meanings.{request_of}
 use Rattle.ob_wire.specs.declared.request.Request as wire
 use Rattle.ob_lanes_laws.specs.Schedule.{idle}
-use Rattle.ob_lanes_laws.proofs.Keeping.{none_is_some, some_same}
+use Rattle.ob_lanes_laws.proofs.Keeping.{none_is_some, some_same, idle_lane}
 use Rattle.ob_lanes.specs.Standing.{AreLanes, requests_of, LanesRepresentBatch, waiting}
 use Rattle.ob_lanes.specs.declared.batch.Busy.{Busy}
 use Rattle.ob_lanes.specs.declared.batch.BatchRequest.{BatchRequest}
@@ -41,6 +41,7 @@ idle_stands image fuel base batch count l entries lanes next some slice = record
     store = refl;
     done = λ n e f. waiting_done batch n e (ap (λ es. slice_get es n) (sym entries) ∙ f);
     each = subst (λ ls. AreLanes image fuel base l.entries.items ls (replicate count None)) (sym lanes) (idle_lanes image fuel base l.entries.items count);
+    own = record { unanswered = λ k b e. absurd (idle_lane count k b e); apart = λ j k b d e f same. absurd (idle_lane count j b e) };
   };
   next = subst (λ n. n < length l.lanes.items) (sym next) (subst (λ ls. 0 < length ls) (sym lanes) (subst (λ n. 0 < n) (sym (idle_length count)) some));
   slice = slice;

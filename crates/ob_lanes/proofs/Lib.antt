@@ -1,9 +1,11 @@
 pub mod Maps
 pub mod SliceLemmas
+pub mod Own
 pub mod Standing
 pub mod TurnLemmas
 pub mod Answering
 pub mod Changing
+pub mod Untouched
 pub mod Committing
 pub mod Counting
 pub mod Idle

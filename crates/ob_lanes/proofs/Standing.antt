@@ -14,9 +14,10 @@ use Rattle.ob_lanes_laws.specs.Requests.{has_ended}
 use Rattle.ob_lanes_laws.specs.Turns.{first_start, started, turned}
 use Rattle.ob_lanes_laws.proofs.Keeping.{none_is_some, some_same, set_cases}
 use Rattle.ob_lanes.specs.Starting.{is_held, are_earlier_done, may_start, first_from, opened_busy, begun_with, begun}
-use Rattle.ob_lanes.specs.Standing.{Fits, rules_on, BusyLane, State, IsBusy, IsLane, AreLanes, requests_of, LanesRepresent, NoneHasEnded, OthersGoOn, is_going, MayRun, Ran, LaneTells, HadTurn}
+use Rattle.ob_lanes.specs.Standing.{Fits, rules_on, BusyLane, State, IsBusy, IsLane, AreLanes, requests_of, HaveOwnRequests, LanesRepresent, NoneHasEnded, OthersGoOn, is_going, MayRun, Ran, LaneTells, HadTurn}
 use Rattle.ob_lanes.specs.declared.batch.Busy.{Busy}
 use Rattle.ob_lanes.specs.declared.batch.BatchRequest.{BatchRequest}
+use Rattle.ob_lanes.proofs.Own.{own_opened, own_sliced}
 
 -- Lists.
 
@@ -154,15 +155,16 @@ opened_is image fuel base entries n q f fits =
 
 -- another lane in the place of one
 with_pair : (image : Image) (fuel : ℕ) (base : Stored) (entries : List BatchRequest) (lanes : List (Option Busy)) (l : State) (k : ℕ) (b : Option Busy) (s : Option BusyLane) → LanesRepresent image fuel base entries lanes l → IsLane image fuel base entries b s
-    → LanesRepresent image fuel base entries (slice_set lanes k b) (with_lane k s l)
-with_pair image fuel base entries lanes l k b s h g = record { store = h.store; done = h.done; each = pair_set image fuel base entries lanes l.lanes k b s h.each g }
+    → HaveOwnRequests (with_lane k s l) → LanesRepresent image fuel base entries (slice_set lanes k b) (with_lane k s l)
+with_pair image fuel base entries lanes l k b s h g own = record { store = h.store; done = h.done; each = pair_set image fuel base entries lanes l.lanes k b s h.each g; own = own }
 
 begin_at : (fits : Fits) (image : Image) (fuel : ℕ) (base : Stored) (entries : List BatchRequest) (lanes : List (Option Busy)) (l : State) (k n : ℕ) (b : Option Busy) (s : Option BusyLane) → LanesRepresent image fuel base entries lanes l
     → (st : Startable fits image fuel (requests_of entries) l n) → IsLane image fuel base entries b s
     → LanesRepresent image fuel base entries (begun_with k (Some n) (Some b) lanes) (starts (rules_on fits image fuel) (requests_of entries) k n (Some st.request) (Some s) l)
 begin_at fits image fuel base entries lanes l k n None None h st g =
     subst (λ m. LanesRepresent image fuel base entries (slice_set lanes k (Some (opened_busy n))) (if m then with_lane k (Some (schedule.opened (rules_on fits image fuel) n st.request)) l else l)) (sym st.may)
-    (with_pair image fuel base entries lanes l k (Some (opened_busy n)) (Some (schedule.opened (rules_on fits image fuel) n st.request)) h (opened_is image fuel base entries n st.request st.is fits))
+    (with_pair image fuel base entries lanes l k (Some (opened_busy n)) (Some (schedule.opened (rules_on fits image fuel) n st.request)) h (opened_is image fuel base entries n st.request st.is fits)
+    (own_opened fits image fuel (requests_of entries) l k n st.request st.may h.own))
 begin_at fits image fuel base entries lanes l k n None (Some s) h st g = absurd g
 begin_at fits image fuel base entries lanes l k n (Some b) None h st g = absurd g
 begin_at fits image fuel base entries lanes l k n (Some b) (Some s) h st g = h
@@ -239,6 +241,7 @@ idle_ran fits image fuel base entries lanes l units k b outcome h g e r = record
     store = h.store;
     done = h.done;
     each = subst (λ ss. AreLanes image fuel base entries (slice_set lanes k b) ss) (set_same l.lanes k None e) (pair_set image fuel base entries lanes l.lanes k b None h.each r.is);
+    own = h.own;
   };
   others = λ j d f n. g j d f;
   tells = subst (λ y. LaneTells base entries y outcome) (sym e) r.tells;
@@ -257,7 +260,8 @@ busy_ran : (fits : Fits) (image : Image) (fuel : ℕ) (base : Stored) (entries :
 busy_ran fits image fuel base entries lanes l units k s b outcome h g e r =
     let is = ap (λ c. Some (sliced (rules_on fits image fuel) c units s)) (sym h.store) in
     record {
-      state = with_pair image fuel base entries lanes l k b (Some (sliced (rules_on fits image fuel) l.store units s)) h (subst (λ y. IsLane image fuel base entries b y) is r.is);
+      state = with_pair image fuel base entries lanes l k b (Some (sliced (rules_on fits image fuel) l.store units s)) h (subst (λ y. IsLane image fuel base entries b y) is r.is)
+          (own_sliced l k s (sliced (rules_on fits image fuel) l.store units s) e refl h.own);
       others = others_with l k (Some (sliced (rules_on fits image fuel) l.store units s)) g;
       tells = subst (λ y. LaneTells base entries y outcome) (ap (λ y. Some y) is ∙ sym (set_get l.lanes k (Some (sliced (rules_on fits image fuel) l.store units s)) (Some s) e)) r.tells;
     }

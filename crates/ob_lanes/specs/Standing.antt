@@ -13,6 +13,7 @@ use Rattle.ob_code_table.specs.ImageTables.{table_of_image}
 use Rattle.ob_machine_meaning.specs.Meanings.{machine_invocation}
 use Rattle.ob_machine_steps.specs.Measures.{LeadsAheadOrToUnit}
 use Rattle.ob_lanes_laws.specs.UnownedLaws.{KeepsStores}
+use Rattle.ob_request_run_laws.specs.Laws.{AgreeOn}
 use Rattle.ob_request_run_laws.specs.Runs.{paused, answered, invoked_by}
 use Rattle.ob_request_run_laws.specs.Runs as plain
 use Rattle.ob_request_run_laws.specs.Slices.{slice}
@@ -159,11 +160,17 @@ requests_of entries = map (λ (e : BatchRequest). request_of e.request) entries
 abbrev pub requests_kept : Lanes → List wire.Request
 requests_kept lanes = map (λ (e : BatchRequest). e.request) lanes.entries.items
 
+-- Each busy lane has a request that isn't answered, and no two lanes have the same one.
+pub record HaveOwnRequests (l : State) : Type 0 where
+  pub unanswered : (k : ℕ) (b : BusyLane) → slice_get l.lanes k ≡ Some (Some b) → is_done b.number l.done ≡ false
+  pub apart : (j k : ℕ) (b d : BusyLane) → slice_get l.lanes j ≡ Some (Some b) → slice_get l.lanes k ≡ Some (Some d) → b.number ≡ d.number → j ≡ k
+
 -- Lanes, and what is kept of the batch, represent a state of the schedule on what a store holds.
 pub record LanesRepresent (image : Image) (fuel : ℕ) (base : Stored) (entries : List BatchRequest) (lanes : List (Option Busy)) (l : State) : Type 0 where
   pub store : l.store ≡ content_of base
   pub done : (n : ℕ) (e : BatchRequest) → slice_get entries n ≡ Some e → is_done n l.done ≡ e.is_done
   pub each : AreLanes image fuel base entries lanes l.lanes
+  pub own : HaveOwnRequests l
 
 -- The code's lanes represent a state of the schedule of a batch, on what a store holds.
 pub record LanesRepresentBatch (image : Image) (fuel : ℕ) (batch : List Request) (base : Stored) (lanes : Lanes) (l : State) : Type 0 where
@@ -233,13 +240,14 @@ pub record HadTurn (image : Image) (fuel : ℕ) (base : Stored) (entries : List 
   pub tells : (fits : Fits) → LaneTells base entries (slice_get (turned (rules_on fits image fuel) (requests_of entries) units k l).lanes k) outcome
 
 -- What a turn of a lane answers in a state of the schedule, and whose turn is next: the reply of the lane's run, which has ended, and what
--- differs in the store after it; that nothing commits, and there is something left to answer; or that there is nothing left.
+-- differs in the store after it; that nothing commits, and there is something left to answer; or that there is nothing left, and no lane
+-- is busy.
 abbrev pub Answers : Stored → List Request → List BatchRequest → ℕ → State → Turn → ℕ → Type 0
 Answers base batch entries k l (Commit reply delta) next = LaneTells base entries (slice_get l.lanes k) (slice_outcome.Ended reply delta) × EndsAlone k l × (next ≡ k)
 Answers base batch entries k l Going next =
     NoneHasEnded l × (is_answered batch l ≡ false) × (next ≡ next_lane (length l.lanes) k)
 Answers base batch entries k l Done next =
-    NoneHasEnded l × (is_answered batch l ≡ true) × (next ≡ next_lane (length l.lanes) k)
+    NoneHasEnded l × (is_answered batch l ≡ true) × (next ≡ next_lane (length l.lanes) k) × AreIdle l
 
 -- What a turn comes to and whose turn is next, by what its slice has led to and what is kept of the batch.
 abbrev pub TurnComesTo : Lanes → SliceOutcome → ℕ → Turn → Type 0
@@ -281,6 +289,12 @@ pub record Waits (image : Image) (fuel : ℕ) (batch : List Request) (base : Sto
   pub lane : BusyLane
   pub lane_is : slice_get l.lanes lanes.next ≡ Some (Some lane)
   pub ended : EndsAlone lanes.next l
+
+-- After a change of what a store holds the run of each lane, if it was sliced since it was opened, has read nothing that is changed.
+abbrev pub AreUntouched : Stored → Delta → List (Option Busy) → Type 0
+AreUntouched before delta lanes =
+    (k : ℕ) (run : Run) (after : Stored) → run_at lanes k ≡ Some run → LeadsTo before delta (content_of after)
+    → AgreeOn run.state.reads (content_of before) (content_of after)
 
 -- From a store at rest, and for code by which none goes wrong or leaves one that isn't: if the delta leads to what the schedule's store
 -- holds after the commit, and has just what differs, then the lanes represent the schedule after the commit.

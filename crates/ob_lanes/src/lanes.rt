@@ -1,7 +1,7 @@
 //! Lanes of a batch.
 ghost use Rattle.std.specs.Prelude.{◌≡◌, ℕ, ◌<◌, ◌≤◌, List, [], length, map, slice_get, Some, IfOk, OnOk, OnErr};
 ghost use Rattle.std.specs.Option.{option_copied};
-ghost use Rattle.ob_base.specs.Limits.{most_handles};
+ghost use Rattle.ob_base.specs.Limits.{most_handles, most_requests};
 ghost use Rattle.ob_code.specs.declared.image.Image.{Image as Code};
 ghost use Rattle.ob_code_table.specs.ImageTables.{table_of_image};
 ghost use Rattle.ob_heap.specs.Contents.{Stored, content_of};
@@ -9,11 +9,10 @@ ghost use Rattle.ob_heap.specs.Deltas.{IsDelta};
 ghost use Rattle.ob_invocation_spec.specs.Requests.{Request as Asked};
 ghost use Rattle.ob_owners.specs.Spots.{owner_place};
 ghost use Rattle.ob_wire.specs.Meanings.{request_of};
-ghost use Rattle.ob_wire.specs.Requests.{most_requests};
 ghost use Rattle.ob_exec_entries.specs.Naming.{IsNamesOf};
 ghost use Rattle.ob_lanes_laws.specs.Schedule.{idle};
 ghost use Rattle.ob_lanes_laws.specs.Turns.{next_lane};
-ghost use Rattle.ob_lanes.specs.Standing.{State, LanesRepresentBatch, CanTurn, Turned, TurnComesTo, Waits, Commits, Lends, AreIdle, waiting, requests_kept, run_of_lane, run_at};
+ghost use Rattle.ob_lanes.specs.Standing.{State, LanesRepresentBatch, CanTurn, Turned, TurnComesTo, Waits, Commits, AreUntouched, Lends, AreIdle, waiting, requests_kept, run_of_lane, run_at};
 
 use crate::batch::{BatchRequest, Busy};
 use crate::lane_run::LaneRun;
@@ -202,13 +201,15 @@ impl Lanes {
     }
 
     /// The commit that the last turn answered is made: `before` is what the store held, and `delta` is what is committed, which is empty
-    /// where the store lacks room. Each other request whose run has read something that is changed is opened again. It takes no memory.
+    /// where the store lacks room. Each other request whose run has read something that is changed is opened again, and no other one. It
+    /// takes no memory.
     pub fn committed(&mut self, before: &Content, delta: &Delta)
         requires few { length before.now.handles ≤ most_handles }
         requires delta { IsDelta before.now delta.now }
         requires waits { (image : Code) × (fuel : ℕ) × (batch : List Asked) × (l : State) × Waits image fuel batch before.now self.old l }
         ensures stand { (image : Code) (fuel : ℕ) (batch : List Asked) (l : State) (after : Stored) → Waits image fuel batch before.now self.old l
             → Commits image fuel batch before.now delta.now after self.old.next l self.new }
+        ensures untouched { AreUntouched before.now delta.now self.new.lanes.items }
         ensures requests { requests_kept self.new ≡ requests_kept self.old }
         ensures next { self.new.next ≡ next_lane (length self.old.lanes.items) self.old.next }
         ensures slice { self.new.slice ≡ self.old.slice }

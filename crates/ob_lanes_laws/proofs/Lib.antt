@@ -9,3 +9,4 @@ pub mod UnownedRuns
 pub mod UnownedRequests
 pub mod Unowned
 pub mod Requests
+pub mod Orders

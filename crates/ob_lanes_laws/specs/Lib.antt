@@ -6,3 +6,4 @@ pub mod Conflicts
 pub mod Requests
 pub mod Laws
 pub mod UnownedLaws
+pub mod Orders

@@ -1,5 +1,6 @@
 //! Laws of the schedule, and of objects without an owner.
 ghost use Rattle.ob_lanes_laws.specs.Laws.{SchedulesAreSerializable, TurnsLowerTheMeasure, BatchesEnd, AnsweredBatchesStay, ConflictsAreDifferences, RequestsAreSerializable, RequestBatchesEnd};
+ghost use Rattle.ob_lanes_laws.specs.Orders.{OneLaneKeepsTheOrder, OneClientKeepsTheOrder};
 ghost use Rattle.ob_lanes_laws.specs.UnownedLaws.{UnownedStaySo};
 
 /// An object of a store at rest that has no owning place has none after any request, by code that leaves each store at rest.
@@ -28,4 +29,10 @@ pub fn conflicts_are_differences()
 pub fn requests_are_serializable<S, L>()
     ensures serializable { RequestsAreSerializable S L }
     ensures end { RequestBatchesEnd S L }
+{}
+
+/// The requests of a batch are answered in their order there in one lane, and in any number of lanes where all are of one client.
+pub fn batches_keep_their_order<S, Q, R, A>()
+    ensures lane { OneLaneKeepsTheOrder S Q R A }
+    ensures client { OneClientKeepsTheOrder S Q R A }
 {}

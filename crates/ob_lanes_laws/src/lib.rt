@@ -5,6 +5,6 @@
 mod laws;
 
 pub use laws::{
-    batches_end, conflicts_are_differences, objects_stay_unowned, requests_are_serializable,
-    schedules_are_serializable,
+    batches_end, batches_keep_their_order, conflicts_are_differences, objects_stay_unowned,
+    requests_are_serializable, schedules_are_serializable,
 };

@@ -36,7 +36,7 @@ use Rattle.ob_machine_laws.proofs.Slicing.{none_paused, over_paused}
 -- Steps.
 
 -- where a step goes on, so many units are left
-abbrev Leaves : ℕ → Option Next → Type 0
+abbrev pub Leaves : ℕ → Option Next → Type 0
 Leaves n None = Unit {0}
 Leaves n (Some (goes c)) = c.world.fuel ≡ n
 Leaves n (Some (stops end)) = Unit {0}
@@ -155,7 +155,7 @@ step_leaves image c None = tt
 step_leaves image c (Some i) = subst (λ n. Leaves n (act image i c)) (pays_one (takes_unit i) c.world.fuel) (act_leaves image i c)
 
 -- the units left after a step
-next_leaves : (image : Image) (p : Phase) → Leaves (left_after (pays image p) (world_of p).fuel) (next_step image p)
+pub next_leaves : (image : Image) (p : Phase) → Leaves (left_after (pays image p) (world_of p).fuel) (next_step image p)
 next_leaves image (starting e w) =
     subst (λ n. Leaves n (with_unit w (enters image e e.receiver))) (pays_one true w.fuel) (unit_leaves w _ (λ u h. enters_leave _ image e e.receiver u h))
 next_leaves image (running c) = step_leaves image c (next_instruction image c)

@@ -1,6 +1,6 @@
 -- What an answer makes of a content differs from it on what was read.
 use Rattle.std.proofs.Common.{◌≡◌, ℕ, zero, suc, ◌+◌, ◌<◌, Bool, true, false, List, [], ◌∷◌, length, Contains, Option, Some, None, refl, sym, ap, ◌∙◌, subst, arith}
-use Rattle.std.specs.Prelude.{cond, fold}
+use Rattle.std.specs.Prelude.{⊤, cond, fold}
 use Rattle.std.specs.List.{AllByRecursion}
 use Rattle.std.specs.Ordering.{eq_by_cmp}
 use Rattle.std.specs.FinMap.Entries.{find as find_key}
@@ -9,9 +9,18 @@ use Rattle.ob_heap_spec.specs.Worlds.{ReadItem, handle_item}
 use Rattle.ob_heap_spec.specs.Handles.{NamedHandle}
 use Rattle.ob_invocation_laws.proofs.Handles.{found_put, found_gone}
 use Rattle.ob_invocation_laws.proofs.Kept.{one_name_tested}
-use Rattle.ob_request_run_laws.specs.Runs.{NameChange, Answer, changed_to, changed_by, content_after}
-use Rattle.ob_request_run_laws.specs.Laws.{HasRead, DifferOn}
+use Rattle.ob_invocation_spec.specs.Replies.{Invocation, Invoked, invoked, goes_wrong}
+use Rattle.ob_invocation_spec.specs.Requests.{Request}
+use Rattle.ob_code.specs.declared.image.Image.{Image}
+use Rattle.ob_machine_meaning.specs.Meanings.{machine_invocation}
+use Rattle.ob_machine_steps.specs.Measures.{LeadsAheadOrToUnit}
+use Rattle.ob_request_run_laws.specs.Runs.{NameChange, Answer, Run, opened, paused, answered, lost, changed_to, changed_by, content_after}
+use Rattle.ob_request_run_laws.specs.Laws.{ComesTo, HasEnded, HasRead, HasReadChanges, DifferOn}
+use Rattle.ob_request_run_laws.specs.Slices.{slices}
+use Rattle.ob_request_run_laws.proofs.Changed.{requests_read_changes}
+use Rattle.ob_request_run_laws.proofs.Enough.{whole_slices_end}
 use Rattle.ob_request_run_laws.proofs.Laid.{laid_length, laid_unheld}
+use Rattle.ob_request_run_laws.proofs.Whole.{slices_come_to}
 
 -- Handles.
 
@@ -55,3 +64,23 @@ answers_differ c a h = record {
   next = λ none. none_added (length c.objects) _ (length a.held.made) (laid_length c.objects a.held) (not_above (length a.held.made) (λ l. none (h.held.next l)));
   handles = λ name none. others_stay a.reads c.handles a.handles name h.handles none;
 }
+
+-- Requests.
+
+abbrev IsInvoked : Invocation → Type 0
+IsInvoked (invoked i) = ⊤
+IsInvoked goes_wrong = ⊥
+
+abbrev invoked_or : Invoked → Invocation → Invoked
+invoked_or j (invoked i) = i
+invoked_or j goes_wrong = j
+
+pub requests_differ : (image : Image) (fuel : ℕ) (c : Content) (q : Request) (i : Invoked) → LeadsAheadOrToUnit image → machine_invocation image c q fuel ≡ invoked i → DifferOn i.reads c i.content
+requests_differ image fuel c q i ahead is =
+    by (slices image fuel c (fuel ∷ []) (opened q)) (whole_slices_end image fuel c q fuel (omega arith)) (slices_come_to image fuel c q (fuel ∷ []) ahead) (requests_read_changes image fuel c q (fuel ∷ []) ahead)
+  where
+    by : (r : Run) → HasEnded r → ComesTo c (machine_invocation image c q fuel) r → HasReadChanges r → DifferOn i.reads c i.content
+    by (opened x) over comes read = absurd over
+    by (paused x reads p h) over comes read = absurd over
+    by (answered a) over comes read = subst (λ (x : Invoked). DifferOn x.reads c x.content) (ap (invoked_or i) (sym comes ∙ is)) (answers_differ c a read)
+    by lost over comes read = absurd (subst IsInvoked (sym is ∙ comes) tt)

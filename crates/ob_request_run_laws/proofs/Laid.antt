@@ -80,7 +80,7 @@ pub record IsHeld (reads : List ReadItem) (h : Held) : Type 0 where
   pub made : 0 < length h.made → Contains reads next_item
 
 -- where nothing is laid at a number it is the base's
-laid_unread : (held : List (ℕ × Object)) (base : List Object) (n : ℕ) (x : Option Object) → found n held ≡ x → (x ≡ None) → slice_get (laid_from held 0 base) n ≡ slice_get base n
+pub laid_unread : (held : List (ℕ × Object)) (base : List Object) (n : ℕ) (x : Option Object) → found n held ≡ x → (x ≡ None) → slice_get (laid_from held 0 base) n ≡ slice_get base n
 laid_unread held base n x e f = laid_at held base n ∙ ap (λ y. option_map (λ o. unwrap_or y o) (slice_get base n)) (e ∙ f) ∙ same_option (slice_get base n)
 
 unread : (x : Option Object) → ((o : Object) → x ≡ Some o → ⊥) → x ≡ None
@@ -92,7 +92,7 @@ pub laid_unheld : (base : List Object) (h : Held) (n : ℕ) → n < length base 
 laid_unheld base h n below none =
     append_front (laid_from h.read 0 base) h.made n (subst (λ l. n < l) (sym (laid_length_from h.read 0 base)) below) ∙ laid_unread h.read base n (found n h.read) refl (unread (found n h.read) none)
 
-made_none : (m : List Object) → length m ≡ 0 → m ≡ []
+pub made_none : (m : List Object) → length m ≡ 0 → m ≡ []
 made_none [] e = refl
 made_none (o ∷ m) e = absurd (omega (arith, e))
 

@@ -20,3 +20,5 @@ pub mod Requests
 pub mod Changed
 pub mod Differing
 pub mod Enough
+pub mod Taken
+pub mod Unchanged

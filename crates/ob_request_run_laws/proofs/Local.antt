@@ -134,7 +134,7 @@ receiver_keeps : (contract : ContractId) (b : BodyCode) (receiver : Option ℕ) 
 receiver_keeps contract b None w = follows_self w
 receiver_keeps contract b (Some n) w = follows_into w (Reference contract (perm_of_code b.entry)) (reference n)
 
-body_keeps : (contract : ContractId) (b : Option BodyCode) (receiver : Option ℕ) (args : List Value) (w : World) → Keeps None w (comes_into_body contract b receiver args w)
+pub body_keeps : (contract : ContractId) (b : Option BodyCode) (receiver : Option ℕ) (args : List Value) (w : World) → Keeps None w (comes_into_body contract b receiver args w)
 body_keeps contract None receiver args w = follows_self w
 body_keeps contract (Some b) receiver args w = follows_on (receiver_keeps contract b receiver w) (args_keep b.params args (receiver_comes_in contract b receiver w))
 

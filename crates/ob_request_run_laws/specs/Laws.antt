@@ -9,7 +9,7 @@ use Rattle.ob_heap_spec.specs.Handles.{handle_at}
 use Rattle.ob_rest_spec.specs.AtRest.{IsStoreAtRest}
 use Rattle.ob_rest_spec.specs.Incoming.{owner_of}
 use Rattle.ob_invocation_spec.specs.Handles.{handle_name, are_handles_full}
-use Rattle.ob_invocation_spec.specs.Replies.{Invocation, invoked, goes_wrong}
+use Rattle.ob_invocation_spec.specs.Replies.{Invocation, Invoked, invoked, goes_wrong}
 use Rattle.ob_invocation_spec.specs.Requests.{Operation, owner_request, Request}
 use Rattle.ob_invocation_laws.specs.Laws.{KeepsStoreAtRest}
 use Rattle.ob_code.specs.declared.image.Image.{Image}
@@ -106,3 +106,10 @@ pub record DifferOn (items : List ReadItem) (c after : Content) : Type 0 where
 -- What an answer that has read its changes makes of a content differs from it on what was read.
 abbrev pub AnswersDifferOnReads : Type 0
 AnswersDifferOnReads = (c : Content) (a : Answer) → HasRead a → DifferOn a.reads c (content_after c a)
+
+-- So does what a request makes of it that doesn't go wrong there: an object that it changes, the next number where it makes one, and each
+-- name that it gives another handle or none it has read.
+abbrev pub RequestsDifferOnReads : Type 0
+RequestsDifferOnReads =
+    (image : Image) (fuel : ℕ) (c : Content) (q : Request) (i : Invoked) → LeadsAheadOrToUnit image
+    → machine_invocation image c q fuel ≡ invoked i → DifferOn i.reads c i.content

@@ -4,3 +4,4 @@ pub mod Runs
 pub mod Slices
 pub mod LocalityLaws
 pub mod Laws
+pub mod Pauses

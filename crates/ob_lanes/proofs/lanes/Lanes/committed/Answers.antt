@@ -6,6 +6,7 @@ use Rattle.ob_lanes.specs.Committing.{lane_at, answered_in}
 use Rattle.ob_lanes.specs.declared.batch.BatchRequest.{BatchRequest}
 use Rattle.ob_lanes.proofs.Committing.{answered_kept}
 use Rattle.ob_lanes.proofs.Commits.{commits_so}
+use Rattle.ob_lanes.proofs.Untouched.{untouched}
 use Rattle.ob_lanes.proofs.lanes.Lanes.committed.Goals as goal
 
 pub returns-clause-stand : goal.returns-clause-stand
@@ -18,6 +19,9 @@ returns-clause-stand c = λ image fuel batch l after w.
     let entries : (with_items old.entries c.commit.new.entries).items ≡ c.commit.new.entries = with_items_is old.entries c.commit.new.entries (search (rules, places)) in
     commits_so image fuel batch before delta after old (record { slice = old.slice; next = c.after_lane-self.result; entries = with_items old.entries c.commit.new.entries; lanes = c.commit.new.self }) l w c.commit.ensures.lanes
     (entries ∙ c.commit.ensures.entries ∙ ap (answered_in (lane_at old.lanes.items old.next)) es) next refl
+
+pub returns-clause-untouched : goal.returns-clause-untouched
+returns-clause-untouched c = untouched c.args.before.now c.args.delta.now c.args.self.now.next c.args.self.now.lanes.items c.commit.new.self.items c.commit.ensures.lanes
 
 pub returns-clause-requests : goal.returns-clause-requests
 returns-clause-requests c =
