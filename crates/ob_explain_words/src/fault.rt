@@ -1,8 +1,9 @@
 //! What is wrong with the words.
 
 use crate::parts::{Given, Parts, SETTINGS, Setting, setting_named};
+use ob_base::LONGEST_TRIAL;
 use ob_explain_page::{Explanation, Nearest};
-use ob_words::{LONGEST_TRIAL, number_in};
+use ob_words::number_in;
 
 /// A command: its word, how many words stand after it, and how it is written.
 #[derive(Clone, Copy)]
@@ -44,6 +45,9 @@ const FORMS: [CommandHelp; 4] = [
         help: "write `trial N`: N is the length of the trial.",
     },
 ];
+
+/// The words of commands that are named, and can't be used yet.
+const UNBUILT: [&str; 6] = ["upgrade", "ship", "follow", "build", "exec", "plan"];
 
 /// What is said where no word is near.
 const COMMANDS: &str =
@@ -124,6 +128,22 @@ fn say_options(told: &mut Explanation, given: &[Given<'_>]) {
     }
 }
 
+// Whether the word is that of a command which isn't built.
+fn is_unbuilt(word: &str) -> bool {
+    for other in UNBUILT.iter() {
+        if *other == word {
+            return true;
+        }
+    }
+    false
+}
+
+// A command that isn't built.
+fn say_unbuilt(told: &mut Explanation, word: &str) {
+    told.what.put_with("`{}` isn't built yet", &[word]);
+    told.help.put(COMMANDS);
+}
+
 // A word that is no command.
 fn say_unknown_command(told: &mut Explanation, word: &str) {
     told.what.put_with("`{}` is no command", &[word]);
@@ -175,6 +195,9 @@ fn form_of(word: &str) -> Option<CommandHelp> {
 
 // The command and the words after it, if they are wrong.
 fn say_command(told: &mut Explanation, word: &str, names: &[&str]) {
+    if is_unbuilt(word) {
+        return say_unbuilt(told, word);
+    }
     let Some(form) = form_of(word) else {
         return say_unknown_command(told, word);
     };

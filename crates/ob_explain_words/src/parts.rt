@@ -1,7 +1,6 @@
 //! The words of a command line, taken apart.
 
-use ob_base::Memory;
-use ob_words::{MOST_FUEL, MOST_LANES, MOST_SLICE};
+use ob_base::{MOST_FUEL, MOST_LANES, MOST_SLICE, Memory};
 use std::alloc::Global;
 
 /// An option with a value.

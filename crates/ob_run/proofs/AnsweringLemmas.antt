@@ -11,11 +11,11 @@ use Rattle.ob_serve.proofs.Sessions.{replies-append}
 use Rattle.ob_words.specs.Asked.{Asked}
 use Rattle.ob_run.specs.Answering.{BeginsSession, AnswersLines, AnswersSome, AnswersWhatItTook}
 use Rattle.ob_run.specs.Commands.{file_of, text_in}
-use Rattle.ob_run.specs.Outside.{OutsideView, devices}
+use Rattle.ob_outside.specs.Outside.{OutsideView, devices}
 use Rattle.ob_run.specs.Sessions.{source_items, ServesProgram}
 use Rattle.ob_run.specs.Statuses.{Treats, MeetsStatus}
-use Rattle.ob_run.specs.declared.exit.Exit.{Exit}
-use Rattle.ob_run.specs.declared.exit.Exit.TheVariants.{Done, Refused, Usage, ReadFault, WriteFault, DiskFault, StoreRefused, FileFault, Memory, Long}
+use Rattle.ob_outside.specs.declared.exit.Exit.{Exit}
+use Rattle.ob_outside.specs.declared.exit.Exit.TheVariants.{Done, Refused, Usage, ReadFault, WriteFault, DiskFault, StoreRefused, FileFault, Memory, Long}
 
 module _ {S : Type 0} where
   -- the replies of as many items as there are

@@ -3,6 +3,7 @@ use Rattle.std.specs.Prelude.{not, ◌&&◌, ◌==◌, map, filter, filter_map, 
 use Rattle.std.specs.List.{enumerate_from}
 use Rattle.std.proofs.Common.{◌≡◌, inl, inr, ℕ, ◌+◌, List, [], ◌++◌, Option, None, Some, Result, Ok, Err, refl, ◌∙◌, ap, subst, arith}
 use Rattle.std.proofs.Math.Path.{fun_ext}
+use Rattle.ob_base.specs.Limits.{area_bytes}
 use Rattle.ob_code.specs.declared.image.Image.{Image}
 use Rattle.ob_code_table.specs.ImageTables.{table_of_image}
 use Rattle.ob_disk_spec.specs.Disk.{DiskView, Reads}
@@ -33,20 +34,20 @@ use Rattle.ob_store.proofs.Unchanged.{kept_untouched}
 use Rattle.ob_store_spec.specs.Stores.{StoreProgram, StoreState}
 use Rattle.ob_store_table_laws.proofs.Unnamed.{said_of}
 use Rattle.ob_table.specs.Tables.{ClassTable}
-use Rattle.ob_serve.specs.Served.{Devices}
+use Rattle.ob_outside.specs.Devices.{Devices}
 use Rattle.ob_serve.specs.declared.serving.Served.{Served}
 use Rattle.ob_serve.proofs.Tables.{rests_by_source}
 use Rattle.ob_words.specs.Asked.{Command, check, serve, serve_stored, audit, trial, Asked}
 use Rattle.ob_run.specs.Attaching.{AttachesAtMostOnce, UsesDisk, KeepsUnlessServed, KeepsUnlessAsked, store_of, store_asked}
 use Rattle.ob_run.specs.Auditing.{AreNumbersOf, IsAudit, CountsAs, IsCountOf, TellsNumbers, unopened_by}
-use Rattle.ob_run.specs.Faults.{CountsFault}
+use Rattle.ob_outside.specs.Faults.{CountsFault}
 use Rattle.ob_run.specs.Openings.{OpensNot, StaysFor}
-use Rattle.ob_run.specs.Outside.{OutsideView, devices}
-use Rattle.ob_run.specs.Sessions.{area_bytes, program_with, BeginsAt, ServesProgram}
+use Rattle.ob_outside.specs.Outside.{OutsideView, devices}
+use Rattle.ob_run.specs.Sessions.{program_with, BeginsAt, ServesProgram}
 use Rattle.ob_run.specs.Statuses.{Treats, TreatsText, MeetsStatus}
 use Rattle.ob_run.specs.TextRead.{asked_with}
-use Rattle.ob_run.specs.declared.exit.Exit.{Exit}
-use Rattle.ob_run.specs.declared.exit.Exit.TheVariants.{Done, Refused, Usage, ReadFault, WriteFault, DiskFault, StoreRefused, FileFault, Memory, Long}
+use Rattle.ob_outside.specs.declared.exit.Exit.{Exit}
+use Rattle.ob_outside.specs.declared.exit.Exit.TheVariants.{Done, Refused, Usage, ReadFault, WriteFault, DiskFault, StoreRefused, FileFault, Memory, Long}
 use Rattle.ob_run.specs.declared.serving.Unopened.{Unopened}
 use Rattle.ob_run.specs.declared.serving.Unopened.TheVariants as unopened
 use Rattle.ob_run.proofs.OpeningLemmas.{kept_store, leaves}

@@ -11,7 +11,8 @@ use Rattle.ob_front.specs.Programs.{IsProgram}
 use Rattle.ob_store.specs.Unchanged.{KeepsBytes}
 use Rattle.ob_store.proofs.Unchanged.{kept_untouched}
 use Rattle.ob_store_spec.specs.Stores.{StoreState}
-use Rattle.ob_serve.specs.Served.{Devices, IsToldAs, SpeaksOf}
+use Rattle.ob_serve.specs.Served.{IsToldAs, SpeaksOf}
+use Rattle.ob_outside.specs.Devices.{Devices}
 use Rattle.ob_serve.specs.Session.{items_from}
 use Rattle.ob_serve.specs.declared.serving.Served.{Served}
 use Rattle.ob_serve.specs.declared.serving.Served.TheVariants as ended
@@ -20,16 +21,16 @@ use Rattle.ob_run.specs.Auditing.{AuditsStore}
 use Rattle.ob_run.specs.Commands.{file_of, text_in}
 use Rattle.ob_run.specs.Corollary.{ServesObservable}
 use Rattle.ob_run.specs.Openings.{RefusesStore, OpensNot}
-use Rattle.ob_run.specs.Outside.{OutsideView, devices}
+use Rattle.ob_outside.specs.Outside.{OutsideView, devices}
 use Rattle.ob_run.specs.Reasons.{HasInput, HasInputFor, HasStoreFor}
 use Rattle.ob_run.specs.Runs.{IsRun}
 use Rattle.ob_run.specs.Sessions.{program_with, BeginsAt, StandsOnDisk, source_items, ServesProgram}
 use Rattle.ob_run.specs.Statuses.{Treats, TreatsText, MeetsStatus}
 use Rattle.ob_run.specs.Survival.{Survives}
 use Rattle.ob_run.specs.TextRead.{Tells}
-use Rattle.ob_run.specs.Writes.{WritesWhole, WritesFront, OnOutput}
-use Rattle.ob_run.specs.declared.exit.Exit.{Exit}
-use Rattle.ob_run.specs.declared.exit.Exit.TheVariants.{Done, Refused, Usage, ReadFault, WriteFault, DiskFault, StoreRefused, FileFault, Memory, Long}
+use Rattle.ob_outside.specs.Writes.{WritesWhole, WritesFront, OnOutput}
+use Rattle.ob_outside.specs.declared.exit.Exit.{Exit}
+use Rattle.ob_outside.specs.declared.exit.Exit.TheVariants.{Done, Refused, Usage, ReadFault, WriteFault, DiskFault, StoreRefused, FileFault, Memory, Long}
 use Rattle.ob_run.proofs.CorollaryLemmas.{serves_observable}
 
 -- ---- the ways of a command

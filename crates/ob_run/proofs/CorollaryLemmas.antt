@@ -1,6 +1,7 @@
 -- From what a status says to what a run comes to where all bytes are observable.
 use Rattle.std.proofs.Common.{◌≡◌, ◌⊎◌, inl, inr, ℕ, ◌≤◌, List, [], ◌++◌, length, Option, Some, sym, ◌∙◌, ap, subst, arith}
 use Rattle.std.proofs.lemmas.List.{append-nil, take_all}
+use Rattle.ob_base.specs.Limits.{area_bytes}
 use Rattle.ob_table.specs.Tables.{ClassTable}
 use Rattle.ob_silica.specs.Terms.{SilicaBody}
 use Rattle.ob_io.specs.LinesOfText.{lines_of}
@@ -14,12 +15,12 @@ use Rattle.ob_serve.specs.Standing.{RepresentsStore}
 use Rattle.ob_serve.specs.declared.serving.Served.TheVariants as ended
 use Rattle.ob_words.specs.Asked.{Asked}
 use Rattle.ob_run.specs.Corollary.{serving, IsObservable, ServesAll, IsUndisturbed, ServesObservable}
-use Rattle.ob_run.specs.Outside.{OutsideView, devices}
+use Rattle.ob_outside.specs.Outside.{OutsideView, devices}
 use Rattle.ob_run.specs.Reasons.{HasStoreFor, IsSmooth, HasReason}
-use Rattle.ob_run.specs.Sessions.{area_bytes, program_with, source_items, ServesProgram}
+use Rattle.ob_run.specs.Sessions.{program_with, source_items, ServesProgram}
 use Rattle.ob_run.specs.Statuses.{Treats, MeetsStatus}
-use Rattle.ob_run.specs.declared.exit.Exit.{Exit}
-use Rattle.ob_run.specs.declared.exit.Exit.TheVariants.{Done, Memory}
+use Rattle.ob_outside.specs.declared.exit.Exit.{Exit}
+use Rattle.ob_outside.specs.declared.exit.Exit.TheVariants.{Done, Memory}
 use Rattle.ob_run.proofs.AnsweringLemmas.{lines_replied}
 use Rattle.ob_run.proofs.ProgramLemmas.{one_table_of, one_bodies_of, one_program}
 use Rattle.ob_run.proofs.TopLemmas.{treated_told, has_reason}

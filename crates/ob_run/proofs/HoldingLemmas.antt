@@ -29,7 +29,8 @@ use Rattle.ob_wire.specs.declared.reply.Answer.{Answer}
 use Rattle.ob_wire.specs.declared.reply.Reply.{Reply}
 use Rattle.ob_serve.specs.Items.{by_machine, by_source, items_of_line, items_of}
 use Rattle.ob_serve.specs.Kept.{says_done, IsSoundFor, AreKept}
-use Rattle.ob_serve.specs.Served.{Devices, Ends, ReadsAll, SpeaksOf, IsCause}
+use Rattle.ob_serve.specs.Served.{Ends, ReadsAll, SpeaksOf, IsCause}
+use Rattle.ob_outside.specs.Devices.{Devices}
 use Rattle.ob_serve.specs.Session.{SessionItem, items_from, state_after, replies, bytes_of}
 use Rattle.ob_serve.specs.Standing.{RepresentsStore, source_program}
 use Rattle.ob_serve.specs.declared.limits.Limits.{Limits}

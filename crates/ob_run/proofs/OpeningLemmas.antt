@@ -1,12 +1,12 @@
 -- From what opening a store answers to what its command says.
 use Rattle.std.proofs.Common.{◌≡◌, ◌⊎◌, inl, inr, ⊎_elim, ℕ, ◌<◌, ◌≤◌, ◌+◌, List, length, Some, refl, sym, ◌∙◌, subst, arith, Result, Ok, Err}
+use Rattle.ob_base.specs.Limits.{area_bytes, most_weight}
 use Rattle.ob_code.specs.Images.{image}
 use Rattle.ob_code.specs.declared.image.Image.{Image}
 use Rattle.ob_disk_spec.specs.Disk.{DiskView, Reads, LeavesOnly, IsQuiet}
 use Rattle.ob_disk_spec.specs.Durable.{May, During}
 use Rattle.ob_disk_spec.proofs.Moments.{weaker, then, call, during_to, throughout_to}
 use Rattle.ob_emit_spec.specs.EmittedImages.{image_of}
-use Rattle.ob_emit_spec.specs.Weights.{most_weight}
 use Rattle.ob_front.specs.Compiled.{IsCompiledProgram}
 use Rattle.ob_front.specs.Programs.{IsProgram}
 use Rattle.ob_heap.specs.Contents.{content_of}
@@ -19,7 +19,7 @@ use Rattle.ob_rest_spec.specs.AtRest.{IsStoreAtRest}
 use Rattle.ob_silica.specs.Terms.{SilicaBody}
 use Rattle.ob_sound_code.specs.SoundCode.{IsSoundCode}
 use Rattle.ob_table.specs.Tables.{ClassTable}
-use Rattle.ob_serve.specs.Served.{Devices}
+use Rattle.ob_outside.specs.Devices.{Devices}
 use Rattle.ob_serve.proofs.Tables.{refused_by_source}
 use Rattle.ob_store.specs.Opening.{IsBlankStart}
 use Rattle.ob_store.specs.Stores.{program_of, area_of_store, kept_of, state_of, StandsOn}
@@ -31,13 +31,13 @@ use Rattle.ob_words.specs.Asked.{Command, check, serve, serve_stored, audit, tri
 use Rattle.ob_run.specs.Attaching.{store_of}
 use Rattle.ob_run.specs.Auditing.{CountsAs}
 use Rattle.ob_run.specs.Openings.{KeepsStoreOf, OpensNot, IsOpenedAs, StaysUnopened, StaysFor, OpensAs}
-use Rattle.ob_run.specs.Sessions.{area_bytes, program_with}
+use Rattle.ob_run.specs.Sessions.{program_with}
 use Rattle.ob_run.specs.Statuses.{Treats}
 use Rattle.ob_run.specs.TextRead.{TellsRefusal, asked_with}
 use Rattle.ob_run.specs.declared.serving.Unopened.{Unopened}
 use Rattle.ob_run.specs.declared.serving.Unopened.TheVariants as unopened
-use Rattle.ob_run.specs.declared.exit.Exit.{Exit}
-use Rattle.ob_run.specs.declared.exit.Exit.TheVariants.{Done, Refused, Usage, ReadFault, WriteFault, DiskFault, StoreRefused, FileFault, Memory, Long}
+use Rattle.ob_outside.specs.declared.exit.Exit.{Exit}
+use Rattle.ob_outside.specs.declared.exit.Exit.TheVariants.{Done, Refused, Usage, ReadFault, WriteFault, DiskFault, StoreRefused, FileFault, Memory, Long}
 use Rattle.ob_run.proofs.SessionLemmas.{is_sound_for, same_program}
 
 -- an image is far smaller than the area of a store

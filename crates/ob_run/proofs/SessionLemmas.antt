@@ -9,13 +9,12 @@ use Rattle.ob_disk_spec.proofs.Untouched.{untouched_none}
 use Rattle.ob_disk_spec.specs.Durable.{Throughout}
 use Rattle.ob_disk_spec.proofs.Moments.{weaker, then, throughout_to, throughout_may}
 use Rattle.ob_io.specs.Causes.{Rose}
-use Rattle.ob_base.specs.Limits.{most_taken}
+use Rattle.ob_base.specs.Limits.{most_taken, area_bytes, most_weight}
 use Rattle.ob_io.specs.Told.{TakesAtMost, Gives}
 use Rattle.ob_io.specs.Views.{SourceView, SinkView}
 use Rattle.ob_store.proofs.Standing.{stores_stand}
 use Rattle.ob_serve.specs.Session.{SessionItem, items_from}
 use Rattle.ob_emit_spec.specs.EmittedImages.{image_of}
-use Rattle.ob_emit_spec.specs.Weights.{most_weight}
 use Rattle.ob_front.specs.Compiled.{IsCompiledProgram}
 use Rattle.ob_front.specs.Programs.{IsProgram}
 use Rattle.ob_heap.specs.Contents.{content_of}
@@ -35,7 +34,8 @@ use Rattle.ob_store.specs.declared.store.Store.{Store}
 use Rattle.ob_store_spec.specs.Stores.{StoreProgram, StoreState, IsStoreOf}
 use Rattle.ob_serve.specs.Items.{by_source, items_of_line}
 use Rattle.ob_serve.specs.Kept.{IsServable, IsSoundFor, AreLimits, KeepsSessions, KeepsOrders}
-use Rattle.ob_serve.specs.Served.{Devices, SpeaksOf, Ends, IsCause}
+use Rattle.ob_serve.specs.Served.{SpeaksOf, Ends, IsCause}
+use Rattle.ob_outside.specs.Devices.{Devices}
 use Rattle.ob_serve.specs.Standing.{RepresentsStore, source_program}
 use Rattle.ob_serve.specs.declared.limits.Limits.{Limits}
 use Rattle.ob_serve.specs.declared.serving.Served.{Served}
@@ -46,12 +46,12 @@ use Rattle.ob_serve.proofs.Progress.{stored_holds}
 use Rattle.ob_serve.proofs.Tables.{rests_by_source, stands_by_source, storable}
 use Rattle.ob_words.specs.Asked.{serve, serve_stored, Asked}
 use Rattle.ob_run.specs.Openings.{IsOpenedAs}
-use Rattle.ob_run.specs.Sessions.{area_bytes, program_with, store_in_memory, IsKeptAlways, IsOrderedAlways, ServesProgram}
+use Rattle.ob_run.specs.Sessions.{program_with, store_in_memory, IsKeptAlways, IsOrderedAlways, ServesProgram}
 use Rattle.ob_run.specs.Statuses.{Treats}
 use Rattle.ob_run.specs.Survival.{Survives}
 use Rattle.ob_run.specs.TextRead.{Tells, asked_with, exit_of}
-use Rattle.ob_run.specs.declared.exit.Exit.{Exit}
-use Rattle.ob_run.specs.declared.exit.Exit.TheVariants.{Done, Refused, Usage, ReadFault, WriteFault, DiskFault, StoreRefused, FileFault, Memory, Long}
+use Rattle.ob_outside.specs.declared.exit.Exit.{Exit}
+use Rattle.ob_outside.specs.declared.exit.Exit.TheVariants.{Done, Refused, Usage, ReadFault, WriteFault, DiskFault, StoreRefused, FileFault, Memory, Long}
 
 -- nothing is done with a disk
 pub spared : (v : DiskView) → IsUntouched v v

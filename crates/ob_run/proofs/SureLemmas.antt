@@ -5,11 +5,11 @@ use Rattle.ob_io.specs.Sure.{sure_files_view, sure_source_view, sure_sink_view}
 use Rattle.ob_io.specs.declared.sure.SureFiles.{SureFiles}
 use Rattle.ob_io.specs.declared.sure.SureSink.{SureSink}
 use Rattle.ob_io.specs.declared.sure.SureSource.{SureSource}
-use Rattle.ob_run.specs.Faults.{NamesFault, NamesNoFault}
-use Rattle.ob_run.specs.Outside.{OutsideView, told}
-use Rattle.ob_run.specs.declared.exit.Exit.{Exit}
-use Rattle.ob_run.specs.declared.exit.Exit.TheVariants.{Done, Refused, Usage, ReadFault, WriteFault, DiskFault, StoreRefused, FileFault, Memory, Long}
-use Rattle.ob_run.specs.declared.outside.Outside.{Outside}
+use Rattle.ob_outside.specs.Faults.{NamesFault, NamesNoFault}
+use Rattle.ob_outside.specs.Outside.{OutsideView, told}
+use Rattle.ob_outside.specs.declared.exit.Exit.{Exit}
+use Rattle.ob_outside.specs.declared.exit.Exit.TheVariants.{Done, Refused, Usage, ReadFault, WriteFault, DiskFault, StoreRefused, FileFault, Memory, Long}
+use Rattle.ob_outside.specs.declared.outside.Outside.{Outside}
 use Rattle.ob_run.proofs.HoldingLemmas.{no_rise}
 
 -- what is observable of sure forms

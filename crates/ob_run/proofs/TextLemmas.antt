@@ -9,7 +9,8 @@ use Rattle.ob_silica.specs.Terms.{SilicaBody}
 use Rattle.ob_lexer.specs.Flaws.{HasFault, too_long, no_utf8, flawed}
 use Rattle.ob_front.specs.Stages.{at_token, at_row, HasTableFault, at_tree, at_type, at_site}
 use Rattle.ob_front.specs.Programs.{HasTermsFault, at_table, at_slot, IsProgram, HasTextFault, at_terms, at_premise, at_weight}
-use Rattle.ob_serve.specs.Served.{Devices, IsToldAs}
+use Rattle.ob_serve.specs.Served.{IsToldAs}
+use Rattle.ob_outside.specs.Devices.{Devices}
 use Rattle.ob_serve.specs.declared.serving.Served.{Served}
 use Rattle.ob_serve.specs.declared.serving.Served.TheVariants as ended
 use Rattle.ob_words.specs.Asked.{Command, check, serve, serve_stored, audit, trial, Asked}
@@ -18,8 +19,8 @@ use Rattle.ob_run.specs.Openings.{OpensNot}
 use Rattle.ob_run.specs.Sessions.{ServesProgram}
 use Rattle.ob_run.specs.Statuses.{IsRefusal, IsFinding, IsOfText, Treats}
 use Rattle.ob_run.specs.TextRead.{IsReadOf}
-use Rattle.ob_run.specs.declared.exit.Exit.{Exit}
-use Rattle.ob_run.specs.declared.exit.Exit.TheVariants.{Done, Refused, Usage, ReadFault, WriteFault, DiskFault, StoreRefused, FileFault, Memory, Long}
+use Rattle.ob_outside.specs.declared.exit.Exit.{Exit}
+use Rattle.ob_outside.specs.declared.exit.Exit.TheVariants.{Done, Refused, Usage, ReadFault, WriteFault, DiskFault, StoreRefused, FileFault, Memory, Long}
 
 long_and_short : (text : List ℕ) → longest_program < length text → length text ≤ longest_program → ⊥
 long_and_short text long short = omega arith

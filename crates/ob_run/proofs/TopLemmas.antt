@@ -1,6 +1,6 @@
 -- From what is done with a text to what a run says.
 use Rattle.std.proofs.Common.{◌≡◌, ◌⊎◌, inl, inr, ℕ, ◌<◌, List, length, Option, None, Some, refl, sym, ap, subst, arith, length-append}
-use Rattle.ob_base.specs.Limits.{most_taken}
+use Rattle.ob_base.specs.Limits.{most_taken, area_bytes}
 use Rattle.ob_disk_spec.specs.Disk.{DiskView, Reads}
 use Rattle.ob_io.specs.Causes.{Rose}
 use Rattle.ob_io.specs.Told.{Takes}
@@ -9,31 +9,34 @@ use Rattle.ob_front.specs.Programs.{IsProgram, IsAccepted}
 use Rattle.ob_front.proofs.ProgramsLaws.{never_accepted_and_faulty_lem}
 use Rattle.ob_store_spec.specs.Stores.{StoreProgram, StoreState, IsStoreOf}
 use Rattle.ob_store_spec.proofs.Refusing.{never_both}
-use Rattle.ob_serve.specs.Served.{Devices, IsToldAs}
+use Rattle.ob_serve.specs.Served.{IsToldAs}
+use Rattle.ob_outside.specs.Devices.{Devices}
 use Rattle.ob_serve.specs.declared.serving.Served.{Served}
 use Rattle.ob_serve.specs.declared.serving.Served.TheVariants as ended
 use Rattle.ob_silica.specs.Terms.{SilicaBody}
 use Rattle.ob_table.specs.Tables.{ClassTable}
 use Rattle.ob_words.specs.Asked.{Command, check, serve, serve_stored, audit, trial, Asked}
 use Rattle.ob_run.specs.Attaching.{UsesDisk, store_of, store_asked}
-use Rattle.ob_run.specs.Faults.{EndsAtFault, NamesFault}
+use Rattle.ob_outside.specs.Faults.{EndsAtFault, NamesFault}
 use Rattle.ob_run.specs.Auditing.{AuditsStore}
-use Rattle.ob_run.specs.FileAsks.{AsksOnce, AsksAtMostOnce, AsksFor}
+use Rattle.ob_run.specs.FileAsks.{AsksOnce, AsksAtMostOnce, AsksFor, file_asked}
 use Rattle.ob_run.specs.Commands.{file_of, text_in}
 use Rattle.ob_run.specs.Openings.{RefusesStore}
-use Rattle.ob_run.specs.Outside.{OutsideView, devices}
+use Rattle.ob_outside.specs.Outside.{OutsideView, devices}
 use Rattle.ob_run.specs.Reasons.{HasInput, HasInputFor, HasStoreFor, HasRefusal, HasRefusalFor, IsSmooth, HasReason}
 use Rattle.ob_run.specs.Runs.{IsRun}
-use Rattle.ob_run.specs.Sessions.{area_bytes, program_with, BeginsAt, ServesProgram}
+use Rattle.ob_run.specs.Sessions.{program_with, BeginsAt, ServesProgram}
 use Rattle.ob_run.specs.Statuses.{IsFinding, Treats, TreatsText, MeetsStatus}
 use Rattle.ob_run.specs.TextRead.{IsReadOf}
 use Rattle.ob_run.specs.VendingMachine.{vending_machine}
-use Rattle.ob_run.specs.Writes.{WritesWhole}
-use Rattle.ob_run.specs.declared.exit.Exit.{Exit}
-use Rattle.ob_run.specs.declared.exit.Exit.TheVariants.{Done, Refused, Usage, ReadFault, WriteFault, DiskFault, StoreRefused, FileFault, Memory, Long}
+use Rattle.ob_outside.specs.Writes.{WritesWhole}
+use Rattle.ob_outside.specs.declared.exit.Exit.{Exit}
+use Rattle.ob_outside.specs.declared.exit.Exit.TheVariants.{Done, Refused, Usage, ReadFault, WriteFault, DiskFault, StoreRefused, FileFault, Memory, Long}
 use Rattle.ob_run.proofs.AnsweringLemmas.{answers}
+use Rattle.ob_run.proofs.AttachingLemmas.{uses_nothing}
 use Rattle.ob_run.proofs.AuditingLemmas.{keeps_unless_served}
 use Rattle.ob_run.proofs.ProgramLemmas.{one_program}
+use Rattle.ob_run.proofs.SessionLemmas.{spared}
 use Rattle.ob_run.proofs.TextLemmas.{TreatsAll, treated_all}
 
 -- nothing is at most one ask
@@ -319,3 +322,20 @@ is_run words old new e status asks disk faults = record {
   faults = faults;
   named = names_fault words old new e status;
 }
+
+-- no call was made
+ends_untouched : (v : OutsideView) (exit : Exit) → EndsAtFault v v exit
+ends_untouched v exit = record {
+  files = omega arith;
+  input = omega arith;
+  output = omega arith;
+  disk = omega arith;
+  once = omega arith;
+  calm = λ _ _ _ _. record { files = refl; input = refl; output = refl; disk = refl };
+}
+
+-- Memory ran out before anything was touched: that is a run of any words.
+pub lacks_memory : (words : Option Asked) (v : OutsideView) → IsRun words v v Memory
+lacks_memory words v =
+    is_run words v v Memory (inl (record { input = refl; output = refl; disk = spared v.disk })) (asks_nothing (file_asked words) v.files.asks)
+    (uses_nothing (store_asked words) v.disk) (ends_untouched v Memory)

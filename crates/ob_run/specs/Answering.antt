@@ -10,10 +10,10 @@ use Rattle.ob_serve.specs.Served.{IsToldAs}
 use Rattle.ob_serve.specs.Session.{items_from, replies}
 use Rattle.ob_words.specs.Asked.{Asked}
 use Rattle.ob_run.specs.Commands.{file_of, text_in}
-use Rattle.ob_run.specs.Outside.{OutsideView}
+use Rattle.ob_outside.specs.Outside.{OutsideView}
 use Rattle.ob_run.specs.Sessions.{program_with, BeginsAt, source_items}
-use Rattle.ob_run.specs.declared.exit.Exit.{Exit}
-use Rattle.ob_run.specs.declared.exit.Exit.TheVariants.{Done, Refused, Usage, ReadFault, WriteFault, DiskFault, StoreRefused, FileFault, Memory, Long}
+use Rattle.ob_outside.specs.declared.exit.Exit.{Exit}
+use Rattle.ob_outside.specs.declared.exit.Exit.TheVariants.{Done, Refused, Usage, ReadFault, WriteFault, DiskFault, StoreRefused, FileFault, Memory, Long}
 
 -- The words ask for a session, the text of P is this program, and on this store its session begins.
 pub record BeginsSession (words : Option Asked) (before : OutsideView) : Type 0 where

@@ -1,5 +1,6 @@
 -- What an audit says of a store (this project's own).
 use Rattle.std.specs.Prelude.{ℕ, ◌≡◌, ⊤, List, ◌++◌, codes, Result, Ok, Err}
+use Rattle.ob_base.specs.Limits.{area_bytes}
 use Rattle.ob_disk_spec.specs.Disk.{DiskView, Reads}
 use Rattle.ob_heap_spec.specs.Contents.{Content}
 use Rattle.ob_io.specs.Causes.{Rose}
@@ -7,7 +8,7 @@ use Rattle.ob_io.specs.Views.{SinkView}
 use Rattle.ob_owners.specs.Counts.{counts_of}
 use Rattle.ob_owners.specs.declared.counts.StoreCounts.{StoreCounts}
 use Rattle.ob_rest_spec.specs.AtRest.{IsStoreAtRest}
-use Rattle.ob_serve.specs.Served.{Devices}
+use Rattle.ob_outside.specs.Devices.{Devices}
 use Rattle.ob_store.specs.Reading.{IsContentOf}
 use Rattle.ob_store.specs.Unchanged.{KeepsBytes}
 use Rattle.ob_store.specs.declared.error.OpenError.{OpenError}
@@ -16,12 +17,12 @@ use Rattle.ob_store_spec.specs.Stores.{StoreProgram, IsRefused}
 use Rattle.ob_table.specs.Tables.{ClassTable}
 use Rattle.ob_words.specs.Asked.{Command, audit}
 use Rattle.ob_run.specs.Openings.{KeepsStoreOf}
-use Rattle.ob_run.specs.Sessions.{area_bytes, program_with}
+use Rattle.ob_run.specs.Sessions.{program_with}
 use Rattle.ob_run.specs.StoreLine.{refusal_view}
 use Rattle.ob_run.specs.TrialLines.{count_line}
-use Rattle.ob_run.specs.Writes.{WritesWhole, WritesFront}
-use Rattle.ob_run.specs.declared.exit.Exit.{Exit}
-use Rattle.ob_run.specs.declared.exit.Exit.TheVariants.{Done, WriteFault, Memory as OutOfMemory}
+use Rattle.ob_outside.specs.Writes.{WritesWhole, WritesFront}
+use Rattle.ob_outside.specs.declared.exit.Exit.{Exit}
+use Rattle.ob_outside.specs.declared.exit.Exit.TheVariants.{Done, WriteFault, Memory as OutOfMemory}
 use Rattle.ob_run.specs.declared.refusal.StoreRefusal.TheVariants.{NotStore, Damaged, OtherProgram, NotAtRest}
 use Rattle.ob_run.specs.declared.serving.Unopened.{Unopened}
 use Rattle.ob_run.specs.declared.serving.Unopened.TheVariants.{Refused, DiskFault, Memory}

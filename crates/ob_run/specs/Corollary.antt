@@ -1,6 +1,6 @@
 -- The theorem in short: `serve P STORE`, where all bytes are observable (this project's own).
 use Rattle.std.specs.Prelude.{ℕ, ◌≡◌, ◌<◌, ◌⊎◌, List, [], ◌++◌, length, Option, Some}
-use Rattle.ob_base.specs.Limits.{most_taken}
+use Rattle.ob_base.specs.Limits.{most_taken, area_bytes}
 use Rattle.ob_table.specs.Tables.{ClassTable}
 use Rattle.ob_silica.specs.Terms.{SilicaBody}
 use Rattle.ob_disk_spec.specs.Disk.{Reads}
@@ -8,13 +8,13 @@ use Rattle.ob_front.specs.Programs.{IsProgram}
 use Rattle.ob_io.specs.Causes.{Rose}
 use Rattle.ob_io.specs.LinesOfText.{lines_of}
 use Rattle.ob_store_spec.specs.Stores.{StoreProgram, StoreState, IsStoreOf}
-use Rattle.ob_serve.specs.Served.{Devices}
+use Rattle.ob_outside.specs.Devices.{Devices}
 use Rattle.ob_serve.specs.Session.{SessionItem, items_from, state_after, replies}
 use Rattle.ob_words.specs.Asked.{serve_stored, Limits, Asked}
-use Rattle.ob_run.specs.Outside.{OutsideView, devices}
-use Rattle.ob_run.specs.Sessions.{area_bytes, program_with, source_items}
-use Rattle.ob_run.specs.declared.exit.Exit.{Exit}
-use Rattle.ob_run.specs.declared.exit.Exit.TheVariants.{Done, Memory}
+use Rattle.ob_outside.specs.Outside.{OutsideView, devices}
+use Rattle.ob_run.specs.Sessions.{program_with, source_items}
+use Rattle.ob_outside.specs.declared.exit.Exit.{Exit}
+use Rattle.ob_outside.specs.declared.exit.Exit.TheVariants.{Done, Memory}
 
 -- `serve P STORE` with these settings
 abbrev pub serving : List ℕ → List ℕ → Limits → Asked

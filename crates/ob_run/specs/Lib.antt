@@ -5,11 +5,7 @@ pub mod Trials
 pub mod VendingMachine
 pub mod Commands
 pub mod FileAsks
-pub mod FaultLine
 pub mod StoreLine
-pub mod Outside
-pub mod Faults
-pub mod Writes
 pub mod Survival
 pub mod Sessions
 pub mod Attaching
@@ -21,5 +17,4 @@ pub mod Reasons
 pub mod Answering
 pub mod Runs
 pub mod Corollary
-pub mod ExitStatus
 pub mod TextRead

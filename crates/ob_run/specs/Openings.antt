@@ -1,5 +1,6 @@
 -- What is said where no store was opened (this project's own).
 use Rattle.std.specs.Prelude.{ℕ, ◌≡◌, ◌⊎◌, List, Some, Result, Ok, Err}
+use Rattle.ob_base.specs.Limits.{area_bytes}
 use Rattle.ob_table.specs.Tables.{ClassTable}
 use Rattle.ob_silica.specs.Terms.{SilicaBody}
 use Rattle.ob_disk_spec.specs.Disk.{DiskView, Reads, LeavesOnly}
@@ -14,10 +15,10 @@ use Rattle.ob_store.specs.Unchanged.{KeepsBytes}
 use Rattle.ob_store.specs.declared.store.Store.{Store}
 use Rattle.ob_journal_spec.specs.Disks.{IsBlankDisk, IsBlankOrBegunDisk}
 use Rattle.ob_store_spec.specs.Stores.{StoreProgram, StoreRefusal, IsStoreOf, IsRefused}
-use Rattle.ob_serve.specs.Served.{Devices}
+use Rattle.ob_outside.specs.Devices.{Devices}
 use Rattle.ob_words.specs.Asked.{Command, audit}
 use Rattle.ob_run.specs.Attaching.{store_of}
-use Rattle.ob_run.specs.Sessions.{area_bytes, program_with}
+use Rattle.ob_run.specs.Sessions.{program_with}
 use Rattle.ob_run.specs.StoreLine.{store_line, refusal_view}
 use Rattle.ob_run.specs.declared.serving.Unopened.{Unopened}
 use Rattle.ob_run.specs.declared.serving.Unopened.TheVariants.{Refused, DiskFault, Memory}

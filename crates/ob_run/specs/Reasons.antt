@@ -1,19 +1,19 @@
 -- Nothing is refused without reason: how a run ends where nothing stands in the way.
 use Rattle.std.specs.Prelude.{ℕ, ◌≡◌, ◌<◌, ◌⊎◌, ⊤, List, length, Option, None, Some}
-use Rattle.ob_base.specs.Limits.{most_taken}
+use Rattle.ob_base.specs.Limits.{most_taken, area_bytes}
 use Rattle.ob_table.specs.Tables.{ClassTable}
 use Rattle.ob_silica.specs.Terms.{SilicaBody}
 use Rattle.ob_disk_spec.specs.Disk.{DiskView, Reads}
 use Rattle.ob_io.specs.Causes.{Rose}
 use Rattle.ob_front.specs.Programs.{IsProgram, IsAccepted}
 use Rattle.ob_store_spec.specs.Stores.{StoreState, StoreRefusal, IsStoreOf, IsRefused}
-use Rattle.ob_serve.specs.Served.{Devices}
+use Rattle.ob_outside.specs.Devices.{Devices}
 use Rattle.ob_words.specs.Asked.{Command, check, serve, serve_stored, audit, trial, Asked}
 use Rattle.ob_run.specs.Commands.{file_of, text_in}
-use Rattle.ob_run.specs.Outside.{OutsideView, devices}
-use Rattle.ob_run.specs.Sessions.{area_bytes, program_with}
-use Rattle.ob_run.specs.declared.exit.Exit.{Exit}
-use Rattle.ob_run.specs.declared.exit.Exit.TheVariants.{Done, Refused, Usage, StoreRefused, Memory}
+use Rattle.ob_outside.specs.Outside.{OutsideView, devices}
+use Rattle.ob_run.specs.Sessions.{program_with}
+use Rattle.ob_outside.specs.declared.exit.Exit.{Exit}
+use Rattle.ob_outside.specs.declared.exit.Exit.TheVariants.{Done, Refused, Usage, StoreRefused, Memory}
 
 -- The input is observable and has fewer than `most_taken` bytes, and neither its count of faults rises nor that of the disk.
 pub record HasInput (before after : Devices) : Type 0 where

@@ -4,11 +4,11 @@ use Rattle.ob_words.specs.Asked.{Asked}
 use Rattle.ob_run.specs.Answering.{AnswersWhatItTook}
 use Rattle.ob_run.specs.Attaching.{UsesDisk, KeepsUnlessAsked, store_asked}
 use Rattle.ob_run.specs.FileAsks.{AsksFor}
-use Rattle.ob_run.specs.Faults.{EndsAtFault, NamesFault}
-use Rattle.ob_run.specs.Outside.{OutsideView}
+use Rattle.ob_outside.specs.Faults.{EndsAtFault, NamesFault}
+use Rattle.ob_outside.specs.Outside.{OutsideView}
 use Rattle.ob_run.specs.Reasons.{HasReason}
 use Rattle.ob_run.specs.Statuses.{MeetsStatus}
-use Rattle.ob_run.specs.declared.exit.Exit.{Exit}
+use Rattle.ob_outside.specs.declared.exit.Exit.{Exit}
 
 -- A run of these words ended so.
 pub record IsRun (words : Option Asked) (before after : OutsideView) (exit : Exit) : Type 0 where

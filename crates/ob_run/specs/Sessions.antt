@@ -1,6 +1,6 @@
 -- The sessions of a program that is served (this project's own).
 use Rattle.std.specs.Prelude.{ℕ, pos, ◌+◌, ◌≡◌, ◌≢◌, List, Option, Some, None}
-use Rattle.ob_base.specs.Limits.{most_taken}
+use Rattle.ob_base.specs.Limits.{most_taken, area_bytes}
 use Rattle.ob_table.specs.Tables.{ClassTable}
 use Rattle.ob_silica.specs.Terms.{SilicaBody}
 use Rattle.ob_code.specs.Images.{image}
@@ -15,7 +15,8 @@ use Rattle.ob_store_spec.specs.Stores.{StoreProgram, StoreState, IsStoreOf}
 use Rattle.ob_serve.specs.Items.{by_source, items_of_line}
 use Rattle.ob_serve.specs.Kept.{KeepsSessions, KeepsOrders}
 use Rattle.ob_serve.specs.Session.{SessionItem, items_from}
-use Rattle.ob_serve.specs.Served.{Devices, Ends}
+use Rattle.ob_serve.specs.Served.{Ends}
+use Rattle.ob_outside.specs.Devices.{Devices}
 use Rattle.ob_serve.specs.Standing.{RepresentsStore}
 use Rattle.ob_serve.specs.declared.limits.Limits.{Limits}
 use Rattle.ob_serve.specs.declared.serving.Served.{Served}
@@ -23,11 +24,7 @@ use Rattle.ob_serve.specs.declared.serving.Served.TheVariants.{DiskFault}
 use Rattle.ob_words.specs.Asked.{Command, check, serve, serve_stored, audit, trial, Asked}
 use Rattle.ob_run.specs.Survival.{Survives}
 
--- how many bytes each of the two areas of a store has on a disk: 64 MiB
-abbrev pub area_bytes : ℕ
-area_bytes = 67108864
-
--- how many both have
+-- how many bytes both areas of a store have on a disk
 abbrev pub both_areas : ℕ
 both_areas = area_bytes + area_bytes
 

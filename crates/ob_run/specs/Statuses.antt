@@ -3,20 +3,21 @@ use Rattle.std.specs.Prelude.{ℕ, ◌≡◌, ◌⊎◌, ◌++◌, List, [], ◌
 use Rattle.ob_base.specs.declared.fault.ProgramFault.{ProgramFault}
 use Rattle.ob_io.specs.Causes.{Rose}
 use Rattle.ob_front.specs.Programs.{IsAccepted, HasTextFault}
-use Rattle.ob_serve.specs.Served.{Devices, IsToldAs}
+use Rattle.ob_serve.specs.Served.{IsToldAs}
+use Rattle.ob_outside.specs.Devices.{Devices}
 use Rattle.ob_serve.specs.declared.serving.Served.TheVariants as ended
 use Rattle.ob_words.specs.Asked.{Command, check, serve, serve_stored, audit, trial, Asked}
 use Rattle.ob_run.specs.Auditing.{AuditsStore}
 use Rattle.ob_run.specs.FileAsks.{AsksOnce}
 use Rattle.ob_run.specs.Commands.{file_of, text_in}
-use Rattle.ob_run.specs.FaultLine.{fault_line}
+use Rattle.ob_outside.specs.FaultLine.{fault_line}
 use Rattle.ob_run.specs.Openings.{RefusesStore, OpensNot}
-use Rattle.ob_run.specs.Outside.{OutsideView, devices, KeepsDevices}
+use Rattle.ob_outside.specs.Outside.{OutsideView, devices, KeepsDevices}
 use Rattle.ob_run.specs.Sessions.{ServesProgram}
 use Rattle.ob_run.specs.TrialLines.{TellsTrial}
-use Rattle.ob_run.specs.Writes.{WritesWhole, WritesFront, OnOutput}
-use Rattle.ob_run.specs.declared.exit.Exit.{Exit}
-use Rattle.ob_run.specs.declared.exit.Exit.TheVariants.{Done, Refused, Usage, ReadFault, WriteFault, DiskFault, StoreRefused, FileFault, Memory, Long}
+use Rattle.ob_outside.specs.Writes.{WritesWhole, WritesFront, OnOutput}
+use Rattle.ob_outside.specs.declared.exit.Exit.{Exit}
+use Rattle.ob_outside.specs.declared.exit.Exit.TheVariants.{Done, Refused, Usage, ReadFault, WriteFault, DiskFault, StoreRefused, FileFault, Memory, Long}
 
 -- ---- what is written of a text alone
 

@@ -6,9 +6,9 @@ use Rattle.ob_words.specs.Asked.{Command, Asked}
 use Rattle.ob_run.specs.FileAsks.{most_read}
 use Rattle.ob_run.specs.Statuses.{IsRefusal, IsFinding, IsOfText}
 use Rattle.ob_run.specs.StoreLine.{store_line}
-use Rattle.ob_run.specs.Writes.{WritesWhole, WritesFront}
-use Rattle.ob_run.specs.declared.exit.Exit.{Exit}
-use Rattle.ob_run.specs.declared.exit.Exit.TheVariants.{Done, Refused, ReadFault, WriteFault, DiskFault, StoreRefused, Memory, Long}
+use Rattle.ob_outside.specs.Writes.{WritesWhole, WritesFront}
+use Rattle.ob_outside.specs.declared.exit.Exit.{Exit}
+use Rattle.ob_outside.specs.declared.exit.Exit.TheVariants.{Done, Refused, ReadFault, WriteFault, DiskFault, StoreRefused, Memory, Long}
 use Rattle.ob_serve.specs.declared.serving.Served.{Served}
 use Rattle.ob_serve.specs.declared.serving.Served.TheVariants as ended
 

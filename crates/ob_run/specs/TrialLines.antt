@@ -1,5 +1,6 @@
 -- What is written of a trial (this project's own).
 use Rattle.std.specs.Prelude.{ℕ, ◌≡◌, List, ◌++◌, codes, decimal}
+use Rattle.ob_base.specs.Limits.{area_bytes}
 use Rattle.ob_front.specs.Programs.{IsProgram}
 use Rattle.ob_silica.specs.Terms.{SilicaBody}
 use Rattle.ob_table.specs.Tables.{ClassTable}
@@ -8,7 +9,7 @@ use Rattle.ob_run.specs.declared.counts.Counts.{Counts}
 use Rattle.ob_emit_spec.specs.EmittedImages.{image_of}
 use Rattle.ob_serve.specs.declared.limits.Limits.{Limits}
 use Rattle.ob_words.specs.Settings.{fuel, lanes, slice, default}
-use Rattle.ob_run.specs.Sessions.{area_bytes, program_with}
+use Rattle.ob_run.specs.Sessions.{program_with}
 
 -- a number behind its word, on a line
 abbrev pub count_line : List ℕ → ℕ → List ℕ

@@ -8,23 +8,22 @@ ghost use Rattle.ob_store.specs.Stores.{program_of};
 ghost use Rattle.ob_words.specs.Asked.{audit};
 ghost use Rattle.ob_run.specs.Attaching.{UsesDisk};
 ghost use Rattle.ob_run.specs.Auditing.{CountsAs, IsCountOf, TellsNumbers, audit_text};
-ghost use Rattle.ob_run.specs.Faults.{CountsFault, EndsAtFault};
-ghost use Rattle.ob_run.specs.Outside.{told, devices};
+ghost use Rattle.ob_outside.specs.Faults.{CountsFault, EndsAtFault};
+ghost use Rattle.ob_outside.specs.Outside.{told, devices};
 ghost use Rattle.ob_run.specs.Sessions.{both_areas};
 ghost use Rattle.ob_run.specs.Statuses.{Treats};
 ghost use Rattle.ob_run.specs.TextRead.{asked_with};
 
 use crate::examined::Examined;
-use crate::exit::Exit;
-use crate::outside::Outside;
-use crate::serving::{AREA, Unopened, unopened_by};
+use crate::serving::{Unopened, unopened_by};
 use crate::telling::{put_count, refuse, refuse_store};
-use ob_base::Memory;
+use ob_base::{AREA_BYTES, Memory};
 use ob_code::Image;
 use ob_disk::Disk;
 use ob_front::compile;
 use ob_heap::Content;
 use ob_io::{Files, Sink, Source, write_all};
+use ob_outside::{Exit, Outside};
 use ob_owners::{StoreCounts, count_store};
 use ob_store::read_store;
 use ob_verify::Verified;
@@ -52,7 +51,7 @@ fn count_taken<D: Disk>(
     ensures attaches { (D.view disk.new).attaches ≡ (D.view disk.old).attaches }
     ensures faults { CountsFault (result ≡ Err Unopened.DiskFault) (D.view disk.old).faults (D.view disk.new).faults }
 {
-    match read_store(alloc, disk, code, AREA) {
+    match read_store(alloc, disk, code, AREA_BYTES) {
         Ok(content) => count_content(alloc, code.image(), &content),
         Err(error) => Err(unopened_by(error)),
     }

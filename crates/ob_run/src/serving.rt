@@ -1,37 +1,32 @@
 //! A program is served: over a store in memory, or over one on a disk.
 ghost use Rattle.std.specs.Prelude.{◌≡◌, ◌≤◌, ℕ, List, Some, None, OnOk, length};
+ghost use Rattle.ob_base.specs.Limits.{area_bytes, most_weight};
 ghost use Rattle.ob_code.specs.Images.{image};
 ghost use Rattle.ob_disk_spec.specs.Calls.{IsAttached};
 ghost use Rattle.ob_disk_spec.specs.Durable.{KeepsBehind};
-ghost use Rattle.ob_emit_spec.specs.Weights.{most_weight};
 ghost use Rattle.ob_store.specs.Reading.{NeedsNoArea};
 ghost use Rattle.ob_store.specs.Stores.{program_of};
 ghost use Rattle.ob_words.specs.Asked.{serve, serve_stored};
 ghost use Rattle.ob_run.specs.Attaching.{UsesDisk};
 ghost use Rattle.ob_run.specs.Auditing.{unopened_by};
-ghost use Rattle.ob_run.specs.Faults.{CountsFault, EndsAtFault};
+ghost use Rattle.ob_outside.specs.Faults.{CountsFault, EndsAtFault};
 ghost use Rattle.ob_run.specs.Openings.{OpensAs};
-ghost use Rattle.ob_run.specs.Outside.{told, devices};
-ghost use Rattle.ob_run.specs.Sessions.{area_bytes};
+ghost use Rattle.ob_outside.specs.Outside.{told, devices};
 ghost use Rattle.ob_run.specs.Statuses.{Treats};
 ghost use Rattle.ob_run.specs.TextRead.{asked_with, exit_of};
 
 use crate::examined::Examined;
-use crate::exit::Exit;
-use crate::outside::Outside;
 use crate::refusal::StoreRefusal;
 use crate::telling::{refuse, refuse_store};
-use ob_base::Memory;
+use ob_base::{AREA_BYTES, Memory};
 use ob_disk::Disk;
 use ob_front::compile;
 use ob_io::{Files, Sink, Source};
+use ob_outside::{Exit, Outside};
 use ob_serve::{Limits, Served, serve};
 use ob_store::{OpenError, Store};
 use ob_verify::Verified;
 use std::alloc::Global;
-
-/// How many bytes each of the two areas of a store has on a disk.
-pub const AREA: u64 = 67_108_864;
 
 // How the run ends whose session ended so.
 fn exit_of(served: Served) -> Exit
@@ -83,7 +78,7 @@ fn open_taken<D: Disk>(alloc: Global, disk: &mut D, code: &Verified) -> Result<S
     ensures attaches { (D.view disk.new).attaches ≡ (D.view disk.old).attaches }
     ensures faults { CountsFault (result ≡ Err Unopened.DiskFault) (D.view disk.old).faults (D.view disk.new).faults }
 {
-    match Store::open_store(alloc, disk, code, AREA) {
+    match Store::open_store(alloc, disk, code, AREA_BYTES) {
         Ok(store) => Ok(store),
         Err(error) => Err(unopened_by(error)),
     }

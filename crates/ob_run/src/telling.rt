@@ -3,18 +3,17 @@ ghost use Rattle.std.specs.Prelude.{◌≡◌, ◌++◌, ℕ, List, OnOk, string
 ghost use Rattle.ob_base.specs.TextErrors.{OnFault};
 ghost use Rattle.ob_front.specs.Programs.{IsAccepted, HasTextFault};
 ghost use Rattle.ob_words.specs.Asked.{Command, check};
-ghost use Rattle.ob_run.specs.Faults.{CountsFault};
+ghost use Rattle.ob_outside.specs.Faults.{CountsFault};
 ghost use Rattle.ob_run.specs.StoreLine.{refusal_view};
 ghost use Rattle.ob_run.specs.TextRead.{Tells, TellsRefusal};
 ghost use Rattle.ob_run.specs.TrialLines.{count_line};
 
 use crate::examined::Examined;
-use crate::exit::Exit;
-use crate::fault::fault_line;
 use crate::refusal::{StoreRefusal, store_line};
 use ob_base::{Memory, ProgramFault};
 use ob_front::{CompileError, check_program};
 use ob_io::{Sink, write_all};
+use ob_outside::{Exit, fault_line};
 use std::alloc::Global;
 
 /// Puts a number behind its word, on a line.

@@ -9,12 +9,12 @@ ghost use Rattle.ob_words.specs.AskedView.{asked_view, command_view};
 ghost use Rattle.ob_run.specs.Attaching.{UsesDisk, store_of, store_asked};
 ghost use Rattle.ob_run.specs.Commands.{file_of};
 ghost use Rattle.ob_run.specs.Corollary.{ServesObservable};
-ghost use Rattle.ob_run.specs.Faults.{CountsFault, EndsAtFault, NamesNoFault};
+ghost use Rattle.ob_outside.specs.Faults.{CountsFault, EndsAtFault, NamesNoFault};
 ghost use Rattle.ob_run.specs.FileAsks.{AsksFor, program_ask};
-ghost use Rattle.ob_run.specs.Outside.{told, devices};
+ghost use Rattle.ob_outside.specs.Outside.{told, devices};
 ghost use Rattle.ob_run.specs.Runs.{IsRun};
-ghost use Rattle.ob_run.specs.declared.exit.Exit.{Exit};
-ghost use Rattle.ob_run.specs.declared.outside.Outside.{Outside};
+ghost use Rattle.ob_outside.specs.declared.exit.Exit.{Exit};
+ghost use Rattle.ob_outside.specs.declared.outside.Outside.{Outside};
 ghost use Rattle.ob_disk.specs.declared.sure.SureDisk.{SureDisk};
 ghost use Rattle.ob_io.specs.declared.sure.SureFiles.{SureFiles};
 ghost use Rattle.ob_io.specs.declared.sure.SureSink.{SureSink};
@@ -24,15 +24,14 @@ ghost use Rattle.ob_run.specs.TextRead.{IsReadOf};
 
 use crate::auditing::audit_store;
 use crate::examined::Examined;
-use crate::exit::Exit;
 use crate::machine::vending_machine;
-use crate::outside::Outside;
 use crate::serving::{serve_text, serve_text_stored};
 use crate::telling::check_text;
 use crate::trying::try_text;
 use ob_base::LONGEST_PROGRAM;
 use ob_disk::Disk;
 use ob_io::{FileError, Files, Sink, Source};
+use ob_outside::{Exit, Outside};
 use ob_serve::Limits;
 use ob_words::{Asked, Command, WordsError, parse_words};
 use std::alloc::Global;
@@ -145,7 +144,8 @@ fn run_words<F: Files, S: Source, K: Sink, D: Disk>(
 
 /// Does what the words say, and answers how it ended. The words leave out the program's own name. The theorem is `IsRun`: it speaks of
 /// what is observable of the files, the input, the output and the disk, before the run and after it. Its corollary says what follows for
-/// `serve P STORE` where all bytes are observable. Of `examined`, which serves to explain a text and a store to a person, nothing is
+/// `serve P STORE` where all bytes are observable. Words that are a row of the table are asked (`written_words_are_asked` of ob_words), so
+/// of these both speak as they are written. Of `examined`, which serves to explain a text and a store to a person, nothing is
 /// said.
 #[tactic(auto, using(crate::proofs::TopLemmas::is_run, crate::proofs::CorollaryLemmas::serves_observable))]
 pub fn run<F: Files, S: Source, K: Sink, D: Disk>(

@@ -1,22 +1,20 @@
 //! A trial is held, and its numbers are written.
 ghost use Rattle.std.specs.Prelude.{◌≡◌, ℕ, List, IfOk, string_bytes};
 ghost use Rattle.ob_words.specs.Asked.{trial};
-ghost use Rattle.ob_run.specs.Faults.{CountsFault};
+ghost use Rattle.ob_outside.specs.Faults.{CountsFault};
 ghost use Rattle.ob_run.specs.Statuses.{IsFinding};
 ghost use Rattle.ob_run.specs.TextRead.{Tells};
 ghost use Rattle.ob_run.specs.TrialLines.{trial_text};
 
 use crate::counts::Counts;
 use crate::examined::Examined;
-use crate::exit::Exit;
 use crate::holding::hold_trial;
-use crate::serving::AREA;
 use crate::telling::{put_count, refuse};
-use ob_base::Memory;
+use ob_base::{AREA_BYTES, DEFAULT_FUEL, DEFAULT_LANES, DEFAULT_SLICE, Memory};
 use ob_front::compile;
 use ob_io::{Sink, write_all};
+use ob_outside::Exit;
 use ob_serve::Limits;
-use ob_words::{DEFAULT_FUEL, DEFAULT_LANES, DEFAULT_SLICE};
 use std::alloc::Global;
 
 // The six numbers, each on a line.
@@ -68,7 +66,7 @@ pub fn try_text<K: Sink>(
         lanes: DEFAULT_LANES as u8,
         slice: DEFAULT_SLICE,
     };
-    match hold_trial(alloc, &program.code, limits, AREA, length) {
+    match hold_trial(alloc, &program.code, limits, AREA_BYTES, length) {
         Ok(counts) => tell_trial(alloc, counts, output),
         Err(Memory) => Exit::Memory,
     }

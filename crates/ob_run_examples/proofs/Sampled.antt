@@ -2,7 +2,7 @@
 use Rattle.std.proofs.Common.{ℕ, ◌≡◌, nat_le, true, length, refl}
 use Rattle.std.specs.Prelude.{flat_map}
 use Rattle.std.specs.Str.{is_utf8, chars}
-use Rattle.ob_base.specs.Limits.{most_slots, longest_program, most_open}
+use Rattle.ob_base.specs.Limits.{most_slots, longest_program, most_open, most_weight}
 use Rattle.ob_perm.specs.Masks.{states_of}
 use Rattle.ob_perm.specs.States.{states_max}
 use Rattle.ob_lexer.specs.Lexing.{word_of}
@@ -11,7 +11,7 @@ use Rattle.ob_resolve_spec.specs.Faults.{faults_of}
 use Rattle.ob_resolve_spec.specs.Generics.{arguments_in_contract}
 use Rattle.ob_format_spec.specs.Texts.{text}
 use Rattle.ob_code.specs.Images.{mode, permission, reference, type_code, reference_param, param, result_type, field, body, contract, image}
-use Rattle.ob_emit_spec.specs.Weights.{most_weight, weight}
+use Rattle.ob_emit_spec.specs.Weights.{weight}
 use Rattle.ob_store_spec.specs.Settling.{is_empty}
 use Rattle.ob_run.specs.VendingMachine.{vending_machine}
 use Rattle.ob_run_examples.proofs.Lexing.{reading}

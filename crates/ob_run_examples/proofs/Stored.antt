@@ -3,7 +3,7 @@ use Rattle.std.proofs.Common.{ℕ, ◌≡◌, ◌+◌, pos, List, [], length, in
 use Rattle.std.specs.Fmt.{digits}
 use Rattle.std.specs.Str.{is_utf8, chars}
 use Rattle.serde_json.proofs.OnLiterals.{serde_json_on_literals}
-use Rattle.ob_base.specs.Limits.{most_slots}
+use Rattle.ob_base.specs.Limits.{most_slots, area_bytes}
 use Rattle.ob_perm.specs.Masks.{states_of}
 use Rattle.ob_perm.specs.States.{states_max}
 use Rattle.ob_lexer.specs.Lexing.{word_of}
@@ -25,7 +25,7 @@ use Rattle.ob_store_spec.specs.Payloads.{state, marks, truth, value, object_head
 use Rattle.ob_store_spec.specs.Stores.{StoreProgram, StoreState, IsStoreOf}
 use Rattle.ob_store_spec.proofs.Leading.{one_store}
 use Rattle.ob_serve.specs.Session.{items_from, replies}
-use Rattle.ob_run.specs.Sessions.{area_bytes, program_with, source_items}
+use Rattle.ob_run.specs.Sessions.{program_with, source_items}
 use Rattle.ob_run.specs.VendingMachine.{vending_machine}
 use Rattle.ob_run_examples.specs.Sample.{asked_stored, input, output}
 use Rattle.ob_run_examples.proofs.Sampled.{many, passes}

@@ -5,7 +5,7 @@ use Rattle.std.specs.Str.{is_utf8}
 use Rattle.std.proofs.lemmas.Bool.{true≢false, and_parts, leb-true}
 use Rattle.std.proofs.lemmas.List.Elements.{All-cons}
 use Rattle.std.proofs.lemmas.Str.{IsUtf8-from_is_utf8}
-use Rattle.ob_base.specs.Limits.{longest_program, most_open}
+use Rattle.ob_base.specs.Limits.{longest_program, most_open, most_weight}
 use Rattle.ob_lexer.specs.declared.token.Token.{Token}
 use Rattle.ob_tree.specs.Members.{Contract}
 use Rattle.ob_parser_spec.specs.AllReaders.{all_programs}
@@ -24,7 +24,7 @@ use Rattle.ob_table.specs.Tables.{ClassTable}
 use Rattle.ob_silica.specs.Terms.{SilicaBody}
 use Rattle.ob_lower_functions.specs.BodyCode.{body_code}
 use Rattle.ob_flow_spec.specs.Deriving.{derive_body, Derives}
-use Rattle.ob_emit_spec.specs.Weights.{most_weight, weight}
+use Rattle.ob_emit_spec.specs.Weights.{weight}
 use Rattle.ob_front.specs.Lowered.{AreLoweredTo}
 use Rattle.ob_front.specs.Stages.{HasTable}
 use Rattle.ob_front.specs.Programs.{IsProgram, IsAccepted}

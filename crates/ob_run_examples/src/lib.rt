@@ -2,13 +2,14 @@
 #![tactic(auto)]
 
 ghost use Rattle.std.specs.Prelude.{◌≡◌, List, []};
+ghost use Rattle.ob_base.specs.Limits.{area_bytes};
 ghost use Rattle.ob_table.specs.Tables.{ClassTable};
 ghost use Rattle.ob_silica.specs.Terms.{SilicaBody};
 ghost use Rattle.ob_front.specs.Programs.{IsProgram, IsAccepted};
 ghost use Rattle.ob_io.specs.LinesOfText.{lines_of};
 ghost use Rattle.ob_serve.specs.Session.{items_from, replies};
 ghost use Rattle.ob_store_spec.specs.Stores.{StoreState, IsStoreOf};
-ghost use Rattle.ob_run.specs.Sessions.{area_bytes, program_with, source_items, store_in_memory};
+ghost use Rattle.ob_run.specs.Sessions.{program_with, source_items, store_in_memory};
 ghost use Rattle.ob_run.specs.VendingMachine.{vending_machine};
 ghost use Rattle.ob_run_examples.specs.Sample.{asked, asked_stored, input, output};
 

@@ -10,7 +10,8 @@ use Rattle.ob_serve.specs.Session.{SessionItem, requests_in}
 use Rattle.ob_serve.specs.Crash.{AfterFirst, AfterSome}
 use Rattle.ob_serve.specs.Items.{by_machine, by_source, items_of_line}
 use Rattle.ob_serve.specs.Kept.{IsSoundFor}
-use Rattle.ob_serve.specs.Served.{Devices, IsAnswered, IsGiven, IsStored, Ends}
+use Rattle.ob_serve.specs.Served.{IsAnswered, IsGiven, IsStored, Ends}
+use Rattle.ob_outside.specs.Devices.{Devices}
 use Rattle.ob_serve.specs.Standing.{RepresentsStore, source_program}
 use Rattle.ob_serve.specs.declared.limits.Limits.{Limits}
 use Rattle.ob_serve.specs.declared.serving.Served.{Served}

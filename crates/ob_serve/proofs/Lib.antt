@@ -12,5 +12,6 @@ pub mod Growing
 pub mod Rounds
 pub mod Turning
 pub mod Orders
+pub mod OwnOrder
 pub mod LineItems
 pub mod Commits

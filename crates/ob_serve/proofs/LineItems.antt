@@ -2,12 +2,12 @@
 use Rattle.std.proofs.Common.{◌≡◌, ℕ, ◌<◌, ◌≤◌, Bool, true, false, List, [], length, refl, sym, ◌∙◌, ap, subst, arith}
 use Rattle.std.specs.Prelude.{Result, Err, nat_le, IsTrue, ⊤, if◌then◌else◌}
 use Rattle.std.proofs.lemmas.Bool.Decides.{nat_tests}
-use Rattle.ob_base.specs.Limits.{longest_line}
+use Rattle.ob_base.specs.Limits.{longest_line, most_requests}
 use Rattle.ob_code.specs.declared.image.Image.{Image}
 use Rattle.ob_store_spec.specs.Stores.{StoreState}
 use Rattle.ob_wire.specs.Reading.{value_of}
 use Rattle.ob_lanes_laws.proofs.Keeping.{both_true}
-use Rattle.ob_wire.specs.Requests.{most_requests, is_batch_size}
+use Rattle.ob_wire.specs.Requests.{is_batch_size}
 use Rattle.ob_wire.specs.declared.refusal.Refusal.{Refusal}
 use Rattle.ob_wire.specs.declared.refusal.Refusal.TheVariants.{LongLine}
 use Rattle.ob_wire.specs.declared.request.Incoming.{Incoming}

@@ -20,7 +20,8 @@ use Rattle.ob_store.specs.Stores.{program_of, area_of_store, state_of}
 use Rattle.ob_store.specs.declared.store.Store.{Store}
 use Rattle.ob_serve.specs.Session.{SessionItem, items_from, state_after, replies}
 use Rattle.ob_serve.specs.Crash.{AfterFirst, AfterSome}
-use Rattle.ob_serve.specs.Served.{Devices, IsToldAs, ReadsSome, SpeaksOf, IsAnswered, IsGiven, IsStored, IsCause, Ends}
+use Rattle.ob_serve.specs.Served.{IsToldAs, ReadsSome, SpeaksOf, IsAnswered, IsGiven, IsStored, IsCause, Ends}
+use Rattle.ob_outside.specs.Devices.{Devices}
 use Rattle.ob_serve.specs.Items.{by_machine, items_of_line}
 use Rattle.ob_serve.specs.declared.limits.Limits.{Limits}
 use Rattle.ob_serve.specs.Serving.{Moment, IsServing, items_shown, StaysIn, stands_where, Answered, HasFault, Stopped, Answers}

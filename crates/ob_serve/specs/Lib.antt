@@ -2,6 +2,7 @@ pub mod Session
 pub mod Asked
 pub mod Settled
 pub mod Batches
+pub mod Orders
 pub mod Items
 pub mod Kept
 pub mod Crash

@@ -5,6 +5,7 @@ use Rattle.ob_base.specs.Limits.{most_taken}
 use Rattle.ob_disk_spec.specs.Disk.{DiskView, LeavesOnly}
 use Rattle.ob_disk_spec.specs.Durable.{May, Throughout}
 use Rattle.ob_io.specs.Causes.{Rose}
+use Rattle.ob_outside.specs.Devices.{Devices}
 use Rattle.ob_io.specs.Told.{TakesFrom, Gives, IsEnd}
 use Rattle.ob_io.specs.LinesOfText.{lines_of, whole_lines}
 use Rattle.ob_io.specs.Views.{SourceView, SinkView}
@@ -12,12 +13,6 @@ use Rattle.ob_serve.specs.Crash.{AfterFirst, AfterSome}
 use Rattle.ob_serve.specs.Session.{SessionItem, items_from, replies}
 use Rattle.ob_serve.specs.declared.serving.Served.{Served}
 use Rattle.ob_serve.specs.declared.serving.Served.TheVariants.{Done, ReadFault, WriteFault, DiskFault, Memory, Long}
-
--- the two streams and the disk at a moment
-pub record Devices : Type 1 where
-  pub input : SourceView
-  pub output : SinkView
-  pub disk : DiskView
 
 -- the bytes are what is observable; where nothing is observable, nothing is said
 abbrev pub IsToldAs : Option (List ℕ) → List ℕ → Type 0

@@ -1,5 +1,6 @@
 //! A batch is answered: its requests run in lanes, and one after another is committed and answered.
 ghost use Rattle.std.specs.Prelude.{◌≡◌, ◌<◌, ◌≤◌, ℕ, suc, List, Option, Ok, IfOk, length, map};
+ghost use Rattle.ob_base.specs.Limits.{most_requests};
 ghost use Rattle.ob_code.specs.declared.image.Image.{Image};
 ghost use Rattle.ob_exec_entries.specs.Naming.{IsNamesOf};
 ghost use Rattle.ob_heap.specs.Contents.{Stored, content_of};
@@ -12,7 +13,6 @@ ghost use Rattle.ob_store_spec.specs.Stores.{StoreState};
 ghost use Rattle.ob_store.specs.Stores.{area_of_store, program_of, state_of};
 ghost use Rattle.ob_store.specs.declared.store.Store.{Store as KeptStore};
 ghost use Rattle.ob_wire.specs.Meanings.{request_of};
-ghost use Rattle.ob_wire.specs.Requests.{most_requests};
 ghost use Rattle.ob_wire.specs.declared.reply.Reply.{Reply as WireReply};
 ghost use Rattle.ob_wire.specs.declared.request.Incoming.TheVariants.{Batch};
 ghost use Rattle.ob_wire.specs.declared.request.Request.{Request as Asked};

@@ -4,6 +4,7 @@ ghost use Rattle.ob_code.specs.declared.image.Image.{Image};
 ghost use Rattle.ob_silica_steps.specs.Configurations.{SilicaProgram};
 ghost use Rattle.ob_serve.specs.Asked.{asked_by, IsAskedBy};
 ghost use Rattle.ob_serve.specs.Kept.{AreLimits, IsSoundFor, KeepsOrders, KeepsSessions, GoesAsSource};
+ghost use Rattle.ob_serve.specs.Orders.{KeepsOrderOfBatches};
 ghost use Rattle.ob_serve.specs.declared.limits.Limits.{Limits};
 ghost use Rattle.ob_serve.specs.Standing.{source_program};
 
@@ -19,4 +20,10 @@ pub fn sessions_are_kept()
     ensures same { (program : SilicaProgram) (image : Image) (limits : Limits) → IsSoundFor program image → GoesAsSource program image limits }
     ensures kept { (program : SilicaProgram) (image : Image) (limits : Limits) → IsSoundFor program image → KeepsSessions (source_program program.table image) image limits }
     ensures ordered { (program : SilicaProgram) (image : Image) (limits : Limits) → IsSoundFor program image → AreLimits limits → KeepsOrders (source_program program.table image) image limits }
+{}
+
+/// A batch of a program whose code is sound is answered in its own order where there is one lane, or where all its requests are of one
+/// client.
+pub fn batches_keep_their_order()
+    ensures { (program : SilicaProgram) (image : Image) (limits : Limits) → IsSoundFor program image → AreLimits limits → KeepsOrderOfBatches (source_program program.table image) image limits }
 {}

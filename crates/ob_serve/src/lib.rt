@@ -11,6 +11,6 @@ mod serving;
 mod turns;
 
 pub use batches::{answer_turn, lanes_of};
-pub use laws::{lines_are_asked, sessions_are_kept};
+pub use laws::{batches_keep_their_order, lines_are_asked, sessions_are_kept};
 pub use limits::Limits;
 pub use serving::{Served, serve};

@@ -3,4 +3,5 @@ mod RefusalLemmas
 mod RowLemmas
 mod WalkLemmas
 mod PartLemmas
-mod WrittenLemmas
+pub mod WrittenLemmas
+mod FurtherLemmas

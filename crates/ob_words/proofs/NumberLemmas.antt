@@ -34,18 +34,18 @@ pub number_signed : (least most : ℕ) (text : List ℕ) → nat_eq (slice_index
 number_signed least most [] h = refl
 number_signed least most (c ∷ cs) h = let same : c ≡ 43 = eqb-true _ _ h in rw (same, lt-ltb 0 (length (43 ∷ cs)) (omega arith)) refl
 
-pub number_read : {E : Type 0} (least most n : ℕ) (text : List ℕ) → nat_eq (slice_index text 0) 43 ≡ false → (r : Result ℕ E) → ParsesUnsigned 32 10 text r
+pub number_read : {E : Type 0} (w least most n : ℕ) (text : List ℕ) → nat_eq (slice_index text 0) 43 ≡ false → (r : Result ℕ E) → ParsesUnsigned w 10 text r
     → r ≡ Ok n → least ≤ n → n ≤ most → number_in least most text ≡ Some n
-number_read least most n text h (Ok m) p e low high =
+number_read w least most n text h (Ok m) p e low high =
     let same : m ≡ n = cc in
     let parts = rw (no_plus text h) at p in
     rw (numeral_test text parts.0.0, sym parts.1, same, le-leb least n low, le-leb n most high) refl
-number_read least most n text h (Err x) p e low high = cc
+number_read w least most n text h (Err x) p e low high = cc
 
-pub number_refused : {E : Type 0} (least most : ℕ) (text : List ℕ) → nat_eq (slice_index text 0) 43 ≡ false → (r : Result ℕ E) → ParsesUnsigned 32 10 text r
-    → (x : E) → r ≡ Err x → most < 2 ^ 32 → number_in least most text ≡ None
-number_refused least most text h (Ok m) p x e low = cc
-number_refused least most text h (Err y) p x e low = go (is_numeral text) refl
+pub number_refused : {E : Type 0} (w least most : ℕ) (text : List ℕ) → nat_eq (slice_index text 0) 43 ≡ false → (r : Result ℕ E) → ParsesUnsigned w 10 text r
+    → (x : E) → r ≡ Err x → most < 2 ^ w → number_in least most text ≡ None
+number_refused w least most text h (Ok m) p x e low = cc
+number_refused w least most text h (Err y) p x e low = go (is_numeral text) refl
   where
     go : (t : Bool) → is_numeral text ≡ t → number_in least most text ≡ None
     go false t = rw t refl

@@ -243,7 +243,7 @@ asks : (limits : Option Limits) (w : Text) (ws : List Text) (a : Asked) → limi
     → command_of w ws ≡ Some a.command → asked_with limits (Some w) (some_of ws) ≡ Some a
 asks limits w ws a ls some is = rw (ls, some, is) refl
 
-written : (ws : List Text) (asked : Asked) → IsWritten ws asked → asked_of ws ≡ Some asked
+pub written : (ws : List Text) (asked : Asked) → IsWritten ws asked → asked_of ws ≡ Some asked
 written ws asked h =
     let parts = split h.row asked.command h.command in
     let gs = h.before ++ h.after in

@@ -2,6 +2,7 @@
 use Rattle.std.specs.Prelude.{ℕ, List, [], ◌∷◌, Option, None, Some, codes, if◌then◌else◌, option_map, option_and_then}
 use Rattle.std.specs.Str.{bytes_eq}
 use Rattle.clap.specs.Walk.{Row, Text, all_of, first_of}
+use Rattle.ob_base.specs.Limits.{longest_trial}
 use Rattle.ob_words.specs.CommandLine.{is_taken, values_in}
 use Rattle.ob_words.specs.Settings.{fuel, lanes, slice, number_in, setting_of}
 
@@ -14,10 +15,6 @@ pub data Command : Type 0 where
   serve_stored : Text → Text → Command
   audit : Text → Text → Command
   trial : ℕ → Command
-
--- how long a trial may be
-abbrev pub longest_trial : ℕ
-longest_trial = 20000
 
 -- the settings of a session: the units of fuel that each request has, the lanes, and the units of a slice
 pub record Limits : Type 0 where

@@ -3,6 +3,7 @@ use Rattle.std.specs.Prelude.{ℕ, ◌&&◌, Option, None, Some, codes, nat_le, 
 use Rattle.std.specs.Str.Parse.{digits_value}
 use Rattle.clap.specs.Walk.{Text}
 use Rattle.clap.specs.ValueTests.{is_numeral}
+use Rattle.ob_base.specs.Limits.{most_fuel, default_fuel, most_lanes, default_lanes, most_slice, default_slice}
 
 -- the number from `least` to `most` that the text writes in decimal digits, without a sign
 abbrev pub number_in : ℕ → ℕ → Text → Option ℕ
@@ -25,15 +26,15 @@ name_of slice = codes "slice"
 
 -- the most that it may be; the least is 1
 abbrev pub most : Setting → ℕ
-most fuel = 200000
-most lanes = 8
-most slice = 1000000
+most fuel = most_fuel
+most lanes = most_lanes
+most slice = most_slice
 
 -- what it is where it isn't given
 abbrev pub default : Setting → ℕ
-default fuel = 100000
-default lanes = 1
-default slice = 1000
+default fuel = default_fuel
+default lanes = default_lanes
+default slice = default_slice
 
 -- the number that a given text writes, or the default where none is given
 abbrev pub number_or : ℕ → ℕ → Option Text → Option ℕ

@@ -3,8 +3,9 @@ use Rattle.std.specs.Prelude.{◌≡◌, ◌≤◌, ℕ, Bool, true, not, nat_eq
 use Rattle.std.specs.List.{list_all}
 use Rattle.std.specs.Str.{bytes_eq}
 use Rattle.clap.specs.Walk.{Text}
+use Rattle.ob_base.specs.Limits.{longest_trial}
 use Rattle.ob_words.specs.Settings.{Setting, fuel, lanes, slice, name_of, setting_of, number_in}
-use Rattle.ob_words.specs.Asked.{Command, check, serve, serve_stored, audit, trial, longest_trial, Asked}
+use Rattle.ob_words.specs.Asked.{Command, check, serve, serve_stored, audit, trial, Asked}
 
 -- The words are a row of the table, and this is its command.
 abbrev pub IsRow : List Text → Command → Type 0

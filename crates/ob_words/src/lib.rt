@@ -4,16 +4,18 @@
 
 mod asked;
 mod command_line;
+mod further;
 mod help;
 mod laws;
 mod number;
 mod reading;
 
 pub use asked::{Asked, Command, Limits, WordsError};
+pub use further::{AskedFurther, Further, MOST_INDEX, MOST_SERIAL, Position, parse_further};
 pub use help::help_text;
-pub use laws::{other_words_are_none, words_are_worked_out};
-pub use number::{
-    DEFAULT_FUEL, DEFAULT_LANES, DEFAULT_SLICE, LONGEST_TRIAL, MOST_FUEL, MOST_LANES, MOST_SLICE,
-    number_in,
+pub use laws::{
+    commands_are_not_further, further_words_are_worked_out, other_words_are_none,
+    other_words_are_not_further, words_are_worked_out, written_words_are_asked,
 };
+pub use number::number_in;
 pub use reading::parse_words;

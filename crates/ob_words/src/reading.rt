@@ -9,12 +9,12 @@ ghost use Rattle.ob_words.specs.AskedView.{asked_view, command_view, limits_view
 
 use crate::asked::{Asked, Command, Limits, WordsError};
 use crate::command_line::command_line;
-use crate::number::{
-    DEFAULT_FUEL, DEFAULT_LANES, DEFAULT_SLICE, LONGEST_TRIAL, MOST_FUEL, MOST_LANES, MOST_SLICE,
-    number_in, number_or,
-};
+use crate::number::{number_in, number_or};
 use clap::ArgMatches;
 use clap::error::ErrorKind;
+use ob_base::{
+    DEFAULT_FUEL, DEFAULT_LANES, DEFAULT_SLICE, LONGEST_TRIAL, MOST_FUEL, MOST_LANES, MOST_SLICE,
+};
 use std::alloc::Global;
 
 // The command that is a word with one word after it.
@@ -62,8 +62,8 @@ fn lanes_of(given: Option<&str>) -> Option<u8>
     u8::try_from(lanes).ok()
 }
 
-// The settings, by the values of their options.
-fn limits_of(fuel: Option<&str>, lanes: Option<&str>, slice: Option<&str>) -> Option<Limits>
+/// The settings, by the values of their options.
+pub fn limits_of(fuel: Option<&str>, lanes: Option<&str>, slice: Option<&str>) -> Option<Limits>
     ensures { option_map limits_view result ≡ limits_of (option_map (λ text. text.now) fuel.entry)
         (option_map (λ text. text.now) lanes.entry) (option_map (λ text. text.now) slice.entry) }
 {
@@ -87,8 +87,8 @@ fn asked_with<'a>(
     Some(Asked { command, limits })
 }
 
-// The value of an option, or the word for the command.
-fn value_in<'a>(matches: &ArgMatches<'a>, name: &str) -> Option<&'a str>
+/// The value of an option, or the word for the command.
+pub fn value_in<'a>(matches: &ArgMatches<'a>, name: &str) -> Option<&'a str>
     ensures { option_map (λ text. text.now) result ≡ first_of name.now (rows_of (found_of matches.now)) }
 {
     matches.get_str(name)
@@ -110,8 +110,8 @@ fn asked_in<'a>(matches: &ArgMatches<'a>) -> Option<Asked<'a>>
     )
 }
 
-// What an error of `clap` says of the words.
-fn refusal(kind: ErrorKind) -> WordsError
+/// What an error of `clap` says of the words.
+pub fn refusal(kind: ErrorKind) -> WordsError
     ensures { result ≡ WordsError.Usage → kind ≢ ErrorKind.OutOfMemory }
 {
     match kind {

@@ -1,8 +1,8 @@
 use Rattle.std.proofs.Common.{inl, inr, map, Some, refl}
 use Rattle.ob_silica.specs.TermsView.{silica_body_of}
-use Rattle.ob_serve.specs.Served.{Devices}
+use Rattle.ob_outside.specs.Devices.{Devices}
 use Rattle.ob_words.specs.Asked.{audit}
-use Rattle.ob_run.specs.Outside.{told, devices}
+use Rattle.ob_outside.specs.Outside.{told, devices}
 use Rattle.ob_run.specs.StoreLine.{refusal_view}
 use Rattle.ob_run.specs.TextRead.{asked_with}
 use Rattle.ob_run.proofs.AttachingLemmas.{uses_nothing}

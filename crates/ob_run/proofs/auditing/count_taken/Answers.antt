@@ -1,7 +1,7 @@
 use Rattle.std.proofs.Common.{Err, sym, subst}
 use Rattle.ob_store.specs.Stores.{program_of}
 use Rattle.ob_run.specs.Auditing.{CountsAs}
-use Rattle.ob_run.specs.Faults.{CountsFault}
+use Rattle.ob_outside.specs.Faults.{CountsFault}
 use Rattle.ob_run.specs.Sessions.{both_areas}
 use Rattle.ob_run.specs.declared.serving.Unopened.{Unopened}
 use Rattle.ob_run.proofs.AuditingLemmas.{Failed, counted_as, not_counted, counted_faults, not_counted_faults}

@@ -2,7 +2,7 @@ use Rattle.std.proofs.Common.{refl}
 use Rattle.ob_disk.specs.Sure.{sure_disk_view}
 use Rattle.ob_io.specs.Sure.{sure_source_view, sure_sink_view}
 use Rattle.ob_client.specs.Trials.{trial_lines}
-use Rattle.ob_serve.specs.Served.{Devices}
+use Rattle.ob_outside.specs.Devices.{Devices}
 use Rattle.ob_store.specs.Stores.{program_of, state_of}
 use Rattle.ob_run.proofs.HoldingLemmas.{some_bytes, blank_unrefused, told_blank, ends_unless_memory, session_unrefused, done_session, is_trial}
 use Rattle.ob_run.proofs.holding.hold_trial.Goals as goal

@@ -1,9 +1,10 @@
+use Rattle.ob_base.specs.Limits.{area_bytes}
 use Rattle.ob_store.specs.Stores.{program_of}
 use Rattle.ob_run.proofs.OpeningLemmas.{opens_since, untaken}
 use Rattle.std.proofs.Common.{arith}
 use Rattle.ob_disk_spec.proofs.Behind.{behind_quiet, behind_more}
 use Rattle.ob_disk_spec.proofs.Untouched.{attached_then}
-use Rattle.ob_run.specs.Sessions.{area_bytes, both_areas}
+use Rattle.ob_run.specs.Sessions.{both_areas}
 use Rattle.ob_run.proofs.AttachingLemmas.{uses_attached, uses_failed, on_ok}
 use Rattle.ob_run.proofs.serving.open_named.Goals as goal
 

@@ -1,8 +1,8 @@
 use Rattle.std.proofs.Common.{◌≡◌, ℕ, ◌≤◌, List, length, refl, sym, subst, arith, Result, Err}
+use Rattle.ob_base.specs.Limits.{area_bytes, most_weight}
 use Rattle.ob_code.specs.Images.{image}
 use Rattle.ob_code.specs.declared.image.Image.{Image}
 use Rattle.ob_disk_spec.specs.Disk.{DiskView, Reads}
-use Rattle.ob_emit_spec.specs.Weights.{most_weight}
 use Rattle.ob_store.specs.Opening.{Opens, LacksArea, StaysUnlessBlank, FaultsAs}
 use Rattle.ob_store.specs.Reading.{NeedsNoArea}
 use Rattle.ob_store.specs.Stores.{program_of}
@@ -10,9 +10,8 @@ use Rattle.ob_store.specs.declared.error.OpenError.{OpenError}
 use Rattle.ob_store.specs.declared.error.OpenError.TheVariants as of_store
 use Rattle.ob_store.specs.declared.store.Store.{Store}
 use Rattle.ob_run.specs.Auditing.{unopened_by}
-use Rattle.ob_run.specs.Faults.{CountsFault}
+use Rattle.ob_outside.specs.Faults.{CountsFault}
 use Rattle.ob_run.specs.Openings.{StaysUnopened, OpensAs}
-use Rattle.ob_run.specs.Sessions.{area_bytes}
 use Rattle.ob_run.specs.declared.serving.Unopened.{Unopened}
 use Rattle.ob_run.specs.declared.serving.Unopened.TheVariants as unopened
 use Rattle.ob_run.proofs.OpeningLemmas.{opened_at, room_for}

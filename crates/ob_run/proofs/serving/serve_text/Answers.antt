@@ -1,11 +1,11 @@
 use Rattle.std.proofs.Common.{inl, map, None, refl, sym, subst, arith}
 use Rattle.ob_silica.specs.TermsView.{silica_body_of}
-use Rattle.ob_serve.specs.Served.{Devices}
+use Rattle.ob_outside.specs.Devices.{Devices}
 use Rattle.ob_words.specs.Asked.{serve}
-use Rattle.ob_run.specs.Outside.{told, devices}
+use Rattle.ob_outside.specs.Outside.{told, devices}
 use Rattle.ob_run.specs.Statuses.{Treats}
 use Rattle.ob_run.specs.TextRead.{asked_with}
-use Rattle.ob_run.specs.declared.exit.Exit.{Exit}
+use Rattle.ob_outside.specs.declared.exit.Exit.{Exit}
 use Rattle.ob_run.proofs.SessionLemmas.{spared, told_alone, ends_session, is_servable, stands_in_memory, begins_in_memory, rests_in_memory, serves_in_memory}
 use Rattle.ob_store.specs.Stores.{program_of}
 use Rattle.ob_run.proofs.AttachingLemmas.{uses_nothing, uses_untouched}

@@ -1,15 +1,15 @@
 use Rattle.std.proofs.Common.{inl, inr, map, Some, refl, sym, subst, arith}
+use Rattle.ob_base.specs.Limits.{area_bytes}
 use Rattle.ob_silica.specs.TermsView.{silica_body_of}
-use Rattle.ob_serve.specs.Served.{Devices}
+use Rattle.ob_outside.specs.Devices.{Devices}
 use Rattle.ob_words.specs.Asked.{serve_stored}
-use Rattle.ob_run.specs.Outside.{told, devices}
+use Rattle.ob_outside.specs.Outside.{told, devices}
 use Rattle.ob_run.specs.Statuses.{Treats}
 use Rattle.ob_run.specs.StoreLine.{refusal_view}
 use Rattle.ob_run.specs.TextRead.{asked_with}
-use Rattle.ob_run.specs.declared.exit.Exit.{Exit}
+use Rattle.ob_outside.specs.declared.exit.Exit.{Exit}
 use Rattle.ob_run.proofs.SessionLemmas.{spared, told_alone, ends_session, is_servable, light_image, serves_stored}
 use Rattle.ob_run.proofs.OpeningLemmas.{opens_not, refused_by_store}
-use Rattle.ob_run.specs.Sessions.{area_bytes}
 use Rattle.ob_run.proofs.AttachingLemmas.{uses_nothing, uses_attached}
 use Rattle.ob_run.proofs.serving.serve_text_stored.Goals as goal
 

@@ -1,5 +1,5 @@
 use Rattle.std.proofs.Common.{inl, refl}
-use Rattle.ob_run.specs.FaultLine.{fault_line}
+use Rattle.ob_outside.specs.FaultLine.{fault_line}
 use Rattle.ob_run.proofs.telling.refuse.Goals as goal
 
 -- what was written is the refusal

@@ -2,7 +2,7 @@ use Rattle.std.proofs.Common.{sym, refl}
 use Rattle.std.specs.Prelude.{map, string_bytes}
 use Rattle.ob_words.specs.Asked.{asked_of}
 use Rattle.ob_words.specs.AskedView.{asked_view}
-use Rattle.ob_run.specs.Outside.{told}
+use Rattle.ob_outside.specs.Outside.{told}
 use Rattle.ob_run.specs.FileAsks.{file_asked}
 use Rattle.ob_run.proofs.LimitLemmas.{in_range}
 use Rattle.ob_run.proofs.TopLemmas.{asks_nothing, treated, treated_own}

@@ -1,7 +1,7 @@
 use Rattle.std.proofs.Common.{refl}
-use Rattle.ob_serve.specs.Served.{Devices}
+use Rattle.ob_outside.specs.Devices.{Devices}
 use Rattle.ob_words.specs.AskedView.{asked_view}
-use Rattle.ob_run.specs.Outside.{told, devices}
+use Rattle.ob_outside.specs.Outside.{told, devices}
 use Rattle.ob_run.proofs.SessionLemmas.{spared, told_alone}
 use Rattle.ob_run.specs.Attaching.{store_of}
 use Rattle.ob_run.proofs.AttachingLemmas.{uses_nothing}

@@ -1,10 +1,10 @@
 use Rattle.std.proofs.Common.{map, refl, subst}
+use Rattle.ob_base.specs.Limits.{area_bytes}
 use Rattle.ob_silica.specs.TermsView.{silica_body_of}
 use Rattle.ob_code.specs.declared.image.Image.{Image}
 use Rattle.ob_serve.specs.Standing.{source_program}
 use Rattle.ob_run.specs.Trials.{IsTrial}
 use Rattle.ob_words.specs.Asked.{trial}
-use Rattle.ob_run.specs.Sessions.{area_bytes}
 use Rattle.ob_run.specs.TrialLines.{default_limits}
 use Rattle.ob_run.proofs.SessionLemmas.{is_servable, is_sound_for, image_fits}
 use Rattle.ob_run.proofs.trying.try_text.Goals as goal
