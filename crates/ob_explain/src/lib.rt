@@ -4,6 +4,7 @@
 
 mod bodies;
 mod calling;
+mod hiding;
 mod noting;
 mod telling;
 

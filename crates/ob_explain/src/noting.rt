@@ -1,7 +1,8 @@
-//! Notes on an accepted text: that a client can make nothing of it, transactions that always call themselves, and where it lets go of
-//! assets.
+//! Notes on a text: a sign that an editor may show otherwise. On an accepted one also that a client can make nothing of it, transactions
+//! that always call themselves, and where it lets go of assets.
 
 use crate::calling::endless_call;
+use crate::hiding::{Hidden, first_hidden};
 use ob_base::{Memory, Span};
 use ob_explain_flow::say_letting;
 use ob_explain_grammar::begins_contract;
@@ -41,6 +42,36 @@ fn tell_note(
 ) -> Result<(), Memory> {
     tell_words(page, file, span, words)?;
     put_excerpt(page, text, span)
+}
+
+// Tells of a sign that an editor may show otherwise.
+fn tell_sign(
+    alloc: Global,
+    page: &mut Page,
+    file: &str,
+    text: &[u8],
+    hidden: Hidden,
+) -> Result<(), Memory> {
+    let said = hidden.words(alloc)?;
+    tell_note(page, file, text, hidden.span, said.as_str())
+}
+
+/// Tells of the first sign of a text that an editor may show otherwise than the compiler reads it, unless that begins at this offset, and
+/// how many notes that takes.
+pub fn tell_hidden(
+    alloc: Global,
+    page: &mut Page,
+    file: &str,
+    text: &[u8],
+    but: Option<u32>,
+) -> Result<usize, Memory> {
+    match first_hidden(text) {
+        Some(hidden) if but != Some(hidden.span.start) => {
+            tell_sign(alloc, page, file, text, hidden)?;
+            Ok(1)
+        }
+        _ => Ok(0),
+    }
 }
 
 // The place of the first name of a contract or an interface among tokens.
@@ -207,8 +238,9 @@ fn tell_all(
     table: &Table,
     seen: &Seen,
 ) -> Result<(), Memory> {
+    let hidden = tell_hidden(alloc, page, file, text, None)?;
     let nothing = tell_nothing_made(alloc, page, file, text, table)?;
-    let most = MOST_NOTES.saturating_sub(nothing);
+    let most = MOST_NOTES.saturating_sub(hidden).saturating_sub(nothing);
     let endless = tell_all_endless(alloc, page, file, text, table, most)?;
     let rest = most.saturating_sub(endless);
     tell_lettings(alloc, page, file, text, table, seen, rest)

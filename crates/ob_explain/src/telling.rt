@@ -3,7 +3,7 @@ ghost use Rattle.std.specs.Prelude.{string_bytes, IfOk};
 ghost use Rattle.ob_explain_page.specs.Pages.{IsPage};
 
 use crate::bodies::tell_bodies;
-use crate::noting::tell_notes;
+use crate::noting::{tell_hidden, tell_notes};
 use ob_base::{
     EXPECTED, LOOP_CHANGES, Memory, NOT_OWNING, ProgramFault, TOO_MANY_INSTANCES, UNKNOWN_NAME,
 };
@@ -105,8 +105,8 @@ fn tell_names(
 }
 
 /// Tells a person of the first fault of a program's text, which is this one, by what the stages saw of the text before it: the file,
-/// the place and the fault; what is wrong; the line of the text with a mark; and how to mend it. It has at most 20 lines of 200
-/// characters, whatever the text.
+/// the place and the fault; what is wrong; the line of the text with a mark; and how to mend it; then the first sign that an editor may show
+/// otherwise than the compiler reads it. It has at most 20 lines of 200 characters, whatever the text.
 pub fn explain(
     alloc: Global,
     file: &str,
@@ -126,13 +126,14 @@ pub fn explain(
     } else {
         tell_names(alloc, &mut page, file, text, fault, seen)?;
     }
+    tell_hidden(alloc, &mut page, file, text, Some(fault.span.start))?;
     page.into_text()
 }
 
-/// Tells a person what is noted of an accepted text, by what the check saw of it: that it has no contract, or none that is `main`;
-/// transactions that call themselves on each way through them; and where it lets go of assets without saying so, as by an asset that
-/// is given as Shared, a `disown` of an object whose fields may own some, a `new` of one that shares itself and is kept nowhere. Empty
-/// where there is nothing to note.
+/// Tells a person what is noted of an accepted text, by what the check saw of it: the first sign that an editor may show otherwise than
+/// the compiler reads it; that it has no contract, or none that is `main`; transactions that call themselves on each way through them; and
+/// where it lets go of assets without saying so, as by an asset that is given as Shared, a `disown` of an object whose fields may own
+/// some, a `new` of one that shares itself and is kept nowhere. Empty where there is nothing to note.
 pub fn notes(alloc: Global, file: &str, text: &[u8], seen: &Seen) -> Result<String, Memory>
     ensures { IfOk result (λ page. IsPage (string_bytes page)) }
 {

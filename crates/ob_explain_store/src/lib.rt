@@ -3,6 +3,7 @@
 #![tactic(auto)]
 
 mod areas;
+mod causes;
 mod comparing;
 mod failing;
 mod lines;
@@ -15,9 +16,10 @@ mod resting;
 mod watching;
 
 pub use areas::{AreaAt, Areas};
+pub use causes::{cause_of_disk, cause_of_file, cause_of_stream};
 pub use comparing::explain_other_program;
-pub use failing::{explain_disk, explain_file};
-pub use opening::{Opening, explain_opening};
+pub use failing::{explain_disk, explain_file, explain_input, explain_output};
+pub use opening::{Opening, explain_audited, explain_opening};
 pub use refusing::{explain_damaged, explain_not_store};
 pub use resting::explain_not_at_rest;
-pub use watching::{Front, Watched};
+pub use watching::{Front, Shown, Watched};

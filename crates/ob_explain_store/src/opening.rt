@@ -2,7 +2,7 @@
 ghost use Rattle.std.specs.Prelude.{string_bytes, IfOk};
 ghost use Rattle.ob_explain_page.specs.Pages.{IsPage};
 
-use crate::lines::{put_count, put_title};
+use crate::lines::put_title;
 use crate::watching::Front;
 use ob_base::{MOST_HANDLES, MOST_OBJECTS, Memory};
 use ob_explain_page::{Page, Words};
@@ -75,22 +75,26 @@ fn put_part_of(title: &mut Words, filled: Filled) {
     title.put(filled.what);
 }
 
-// What is said of a store that is begun.
+// What is said of a store that is begun. Scripts read it, so the words stay as they are, also for one byte.
 fn say_begun(title: &mut Words, length: u64) {
     if length == 0 {
         title.put("a new store, since there was no such file, or an empty one");
     } else {
         title.put("a new store, begun over what stood there, ");
-        put_count(title, length, " byte", " bytes");
+        title.put_number(length);
+        title.put(" bytes");
     }
 }
 
-// What is said of a store that was there.
+// What is said of a store that was there. Scripts read it, so the words stay as they are, also for one object.
 fn say_held(title: &mut Words, opening: Opening) {
     let used = used_of(opening);
-    put_count(title, opening.objects as u64, " object, ", " objects, ");
-    put_count(title, opening.handles as u64, " handle, ", " handles, ");
-    put_count(title, opening.front.records, " record; ", " records; ");
+    title.put_number(opening.objects as u64);
+    title.put(" objects, ");
+    title.put_number(opening.handles as u64);
+    title.put(" handles, ");
+    title.put_number(opening.front.records);
+    title.put(" records; ");
     put_part_of(title, used);
     title.put_number(used.percent());
     title.put(" %)");
@@ -118,23 +122,66 @@ fn put_held(alloc: Global, page: &mut Page, name: &str, opening: Opening) -> Res
     Ok(())
 }
 
-// A store that is begun.
-fn put_begun(alloc: Global, page: &mut Page, name: &str, length: u64) -> Result<(), Memory> {
+/// What to do about bytes behind a closed gate, by a run that has begun a store over them.
+const BEGUN_OVER: &str =
+    "if it was meant to be a store, end this run, write nothing more to the file, and take the last copy.";
+
+/// The same by a run that has written nothing.
+const NOT_YET: &str =
+    "if it was meant to be a store, take the last copy: `serve` would begin a new one over it.";
+
+// A warning of bytes behind a closed gate, as a copy has that was cut or a file of another kind, and what to do.
+fn put_covered(
+    alloc: Global,
+    page: &mut Page,
+    name: &str,
+    length: u64,
+    help: &str,
+) -> Result<(), Memory> {
     let mut title = Words::new(alloc);
-    say_begun(&mut title, length);
-    put_title(page, name, title)
+    title.put("warning: bytes behind a closed gate: ");
+    title.put_number(length.saturating_sub(1));
+    title.put(", not all of them 0");
+    put_title(page, name, title)?;
+    page.put_words(
+        "  note: ",
+        "the first byte is 0, so the file is taken for an empty store.",
+    )?;
+    page.put_words("  help: ", help)
 }
 
-/// Tells a person of a store that is opened: that it is new, or how much it holds; and a warning for each bound of which four
-/// parts of five are reached.
+// A store that is begun over what stood on its disk.
+fn put_begun(alloc: Global, page: &mut Page, name: &str, front: Front) -> Result<(), Memory> {
+    let mut title = Words::new(alloc);
+    say_begun(&mut title, front.length);
+    put_title(page, name, title)?;
+    if front.covered {
+        put_covered(alloc, page, name, front.length, BEGUN_OVER)?;
+    }
+    Ok(())
+}
+
+/// Tells of a store that is opened: that it is new, or how much it holds; a warning for each bound of which four parts of five are
+/// reached, and one of bytes behind a closed gate over which a store is begun.
 pub fn explain_opening(alloc: Global, name: &str, opening: Opening) -> Result<String, Memory>
     ensures { IfOk result (λ page. IsPage (string_bytes page)) }
 {
     let mut page = Page::new(alloc);
     if opening.front.blank {
-        put_begun(alloc, &mut page, name, opening.front.length)?;
+        put_begun(alloc, &mut page, name, opening.front)?;
     } else {
         put_held(alloc, &mut page, name, opening)?;
+    }
+    page.into_text()
+}
+
+/// Warns of bytes behind a closed gate of a store that is audited, by what stands on its disk. Empty where there are none.
+pub fn explain_audited(alloc: Global, name: &str, front: Front) -> Result<String, Memory>
+    ensures { IfOk result (λ page. IsPage (string_bytes page)) }
+{
+    let mut page = Page::new(alloc);
+    if front.blank && front.covered {
+        put_covered(alloc, &mut page, name, front.length, NOT_YET)?;
     }
     page.into_text()
 }

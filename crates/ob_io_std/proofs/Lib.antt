@@ -1,1 +1,3 @@
+pub mod CallLemmas
+pub mod TakingLemmas
 pub mod Untold

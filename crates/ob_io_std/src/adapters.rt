@@ -4,19 +4,32 @@ ghost use Rattle.std.specs.Io.KnownBytes.{ReadConsumes, WriteAppends};
 ghost use Rattle.ob_io.specs.Causes.{HasCause};
 ghost use Rattle.ob_io.specs.Told.{ReadTakes, WriteGives};
 
+use crate::again::{read_again, write_again};
 use crate::failure::{Failure, SystemCall};
 use ob_base::Failed;
 use ob_io::{Asks, FileError, Files, Sink, Source};
 use std::alloc::Global;
-use std::fs;
 use std::io::{Read, Write};
+use std::{fs, io};
 
-/// A reader of std. What is left isn't observable. It counts the bytes in 64 bits: a read that might pass them fails.
+// A call that failed.
+fn failed(call: SystemCall, error: io::Error) -> Option<Failure> {
+    Some(Failure { call, error })
+}
+
+// What is told of a write that wrote nothing, though it was given something.
+fn wrote_nothing() -> io::Error {
+    io::Error::from(io::ErrorKind::WriteZero)
+}
+
+/// A reader of std. What is left isn't observable. It counts the bytes in 64 bits: a read that might pass them fails. A read that a
+/// signal interrupts is made again.
 #[derive(Drop)]
 pub struct StdSource<R> {
     inner: R,
     taken: u64,
     faults: u64,
+    failure: Option<Failure>,
 }
 
 impl<R: Read> StdSource<R> {
@@ -31,7 +44,13 @@ impl<R: Read> StdSource<R> {
             inner,
             taken: 0,
             faults: 0,
+            failure: None,
         }
+    }
+
+    /// The last call of the system that failed; `None` where none did.
+    pub fn failure(&self) -> Option<Failure> {
+        self.failure
     }
 }
 
@@ -47,22 +66,26 @@ impl<R: Read> Source for StdSource<R> {
         ensures inner { ReadConsumes (R.remaining (std_source_inner self.old))
             (R.remaining (std_source_inner self.new)) result into.new }
     {
-        if into.len() as u64 <= u64::MAX - self.taken
-            && let Ok(count) = self.inner.read(into)
-        {
-            self.taken += count as u64;
-            return Ok(count);
+        if into.len() as u64 <= u64::MAX - self.taken {
+            match read_again(&mut self.inner, into) {
+                Ok(count) => {
+                    self.taken += count as u64;
+                    return Ok(count);
+                }
+                Err(error) => self.failure = failed(SystemCall::Read, error),
+            }
         }
         self.faults = self.faults.saturating_add(1);
         Err(Failed)
     }
 }
 
-/// A writer of std. What was written isn't observable.
+/// A writer of std. What was written isn't observable. A write that a signal interrupts is made again.
 #[derive(Drop)]
 pub struct StdSink<W> {
     inner: W,
     faults: u64,
+    failure: Option<Failure>,
 }
 
 impl<W: Write> StdSink<W> {
@@ -72,7 +95,16 @@ impl<W: Write> StdSink<W> {
     pub fn new(inner: W) -> Self
         ensures { (std_sink_view result).faults ≡ 0 }
     {
-        StdSink { inner, faults: 0 }
+        StdSink {
+            inner,
+            faults: 0,
+            failure: None,
+        }
+    }
+
+    /// The last call of the system that failed; `None` where none did.
+    pub fn failure(&self) -> Option<Failure> {
+        self.failure
     }
 }
 
@@ -89,13 +121,13 @@ impl<W: Write> Sink for StdSink<W> {
         ensures inner { WriteAppends (W.contents (std_sink_inner self.old))
             (W.contents (std_sink_inner self.new)) result bytes.now }
     {
-        match self.inner.write(bytes) {
-            Ok(count) if count > 0 || bytes.is_empty() => Ok(count),
-            _ => {
-                self.faults = self.faults.saturating_add(1);
-                Err(Failed)
-            }
+        match write_again(&mut self.inner, bytes) {
+            Ok(count) if count > 0 || bytes.is_empty() => return Ok(count),
+            Ok(_) => self.failure = failed(SystemCall::Write, wrote_nothing()),
+            Err(error) => self.failure = failed(SystemCall::Write, error),
         }
+        self.faults = self.faults.saturating_add(1);
+        Err(Failed)
     }
 }
 
@@ -115,11 +147,10 @@ fn append_pieces<R: Read>(
     let mut room = limit;
     'pieces: while room > 0 {
         let most = room.min(PIECE);
-        let count = match reader.read(&mut piece[..most]) {
+        let count = match read_again(reader, &mut piece[..most]) {
             Ok(count) => count,
             Err(error) => {
-                let call = SystemCall::Read;
-                *failure = Some(Failure { call, error });
+                *failure = failed(SystemCall::Read, error);
                 return Err(FileError::Failed);
             }
         };
@@ -146,8 +177,7 @@ fn append_file<R: fs::Files>(
     let mut file = match fs::open(host, name) {
         Ok(file) => file,
         Err(error) => {
-            let call = SystemCall::Open;
-            *failure = Some(Failure { call, error });
+            *failure = failed(SystemCall::Open, error);
             return Err(FileError::Failed);
         }
     };

@@ -42,11 +42,3 @@ pub struct Failure {
     /// What was answered.
     pub error: io::Error,
 }
-
-/// What a call came to, with what was asked where it failed.
-pub fn asked<T>(call: SystemCall, told: io::Result<T>) -> Result<T, Failure> {
-    match told {
-        Ok(value) => Ok(value),
-        Err(error) => Err(Failure { call, error }),
-    }
-}

@@ -1,9 +1,9 @@
 //! What is told of a store as soon as it is open, before a line is read.
 
-use ob_base::Failed;
+use ob_base::{AREA_BYTES, Failed};
 use ob_explain_store::{Front, Opening, explain_opening};
 use ob_io::Source;
-use ob_run::{AREA, Opened};
+use ob_run::Opened;
 use std::cell::Cell;
 
 /// What is noted of a store while it is opened.
@@ -55,7 +55,7 @@ impl<'a> Announcement<'a> {
             front,
             objects: held.objects,
             handles: held.handles,
-            area: AREA,
+            area: AREA_BYTES,
         };
         if let Ok(page) = explain_opening(self.rt.alloc(), store, opening) {
             let _ = eprint!(self.rt; "{page}");
@@ -89,6 +89,11 @@ impl<'a, S> Announced<'a, S> {
             source,
             announcement,
         }
+    }
+
+    /// The source.
+    pub fn source(&self) -> &S {
+        &self.source
     }
 }
 

@@ -3,16 +3,23 @@
 #![tactic(auto)]
 
 mod announcing;
+mod dispatch;
 mod explaining;
+mod running;
+mod saying;
 
 use crate::announcing::{Announced, Announcement, Noted};
-use crate::explaining::{command_of, explain_run, explain_usage, file_of, store_of};
-use ob_base::Memory;
+use crate::explaining::{
+    Ended, Failures, access_of, cause_of, command_of, explain_run, explain_usage, file_of, store_of,
+};
+use crate::running::{Tells, run_over};
+use crate::saying::{say, say_page, writes_over};
 use ob_explain_store::Watched;
-use ob_io_std::{FileDisk, StdFiles, StdSink, StdSource};
-use ob_run::{Examined, Exit, Outside, run};
-use ob_words::help_text;
-use std::io::{ErrorKind, writer};
+use ob_io_std::{FileDisk, StdFile, StdFiles, StdSink, StdSource, WaitingInput, WaitingOutput};
+use ob_outside::{Exit, Outside};
+use ob_run::Examined;
+use ob_words::Command;
+use std::io::{ErrorKind, Read, Write, writer};
 use std::process::ExitCode;
 use std::{env, io};
 
@@ -25,51 +32,80 @@ fn words(rt: &HostRuntime) -> io::Result<Vec<String>> {
     Ok(words)
 }
 
-// Says on standard error what is said of how a run ended, and then what a person is told of it; of words that ask for help what the
-// commands and options are.
-fn say(rt: &HostRuntime, exit: Exit, page: &str) {
-    if let Some(message) = exit.message() {
-        let _ = eprintln!(rt; "{message}");
-    }
-    let _ = eprint!(rt; "{page}");
-    if exit == Exit::Usage && page.is_empty() {
-        if let Ok(help) = help_text(rt.alloc()) {
-            let _ = eprintln!(rt; "{help}");
+// Tells a person how a run of these words ended, but not where that would be written over the store.
+#[derive(Clone, Copy)]
+struct Teller<'a> {
+    rt: &'a HostRuntime,
+    words: &'a [String],
+    command: Option<Command<'a>>,
+    noted: &'a Noted,
+}
+
+impl<'a, R: Read, W: Write> Tells<
+    StdFiles<&'a HostRuntime>,
+    Announced<'a, StdSource<R>>,
+    StdSink<W>,
+    Watched<'a, FileDisk<'a, StdFile<&'a HostRuntime>>>,
+> for Teller<'a> {
+    fn tell(
+        &self,
+        outside: &Outside<
+            StdFiles<&'a HostRuntime>,
+            Announced<'a, StdSource<R>>,
+            StdSink<W>,
+            Watched<'a, FileDisk<'a, StdFile<&'a HostRuntime>>>,
+        >,
+        examined: &Examined<'_>,
+        exit: Exit,
+    ) {
+        if writes_over(self.rt, store_of(self.command)) {
+            return;
         }
+        let alloc = self.rt.alloc();
+        let Some(command) = self.command else {
+            say_page(self.rt, exit, "", explain_usage(alloc, self.words, exit));
+            return;
+        };
+        let ended = Ended {
+            command,
+            examined,
+            failures: Failures {
+                files: outside.files.failure(),
+                input: outside.input.source().failure(),
+                output: outside.output.failure(),
+            },
+            front: self.noted.front.get(),
+            disk: outside.disk.disk(),
+            exit,
+        };
+        say_page(self.rt, exit, cause_of(ended), explain_run(alloc, ended));
     }
 }
 
-// The same, where nothing is told if memory lacks for it.
-fn say_page(rt: &HostRuntime, exit: Exit, page: Result<String, Memory>) {
-    match page {
-        Ok(page) => say(rt, exit, page.as_str()),
-        Err(_) => say(rt, exit, ""),
-    }
-}
-
-// Runs what the words ask for, and tells of it.
+// Makes the four objects of a run, and runs what the words ask for over them.
 fn run_told(rt: &HostRuntime, words: &[String]) -> Exit {
     let command = command_of(rt.alloc(), words);
     let noted = Noted::nothing();
     let mut examined = Examined::nothing(rt.alloc());
     examined.opened = Some(&noted.held);
-    let announcement = Announcement::new(rt, store_of(command), &noted);
     let others = [file_of(command)];
+    let announcement = Announcement::new(rt, store_of(command), &noted);
+    let input = StdSource::new(WaitingInput::new(rt.reader(), rt));
+    let store = StdFile::new(rt.alloc(), rt);
+    let disk = FileDisk::new(rt.alloc(), store, access_of(command), &others);
     let mut outside = Outside {
         files: StdFiles::new(rt.alloc(), rt),
-        input: Announced::new(StdSource::new(rt.reader()), announcement),
-        output: StdSink::new(writer(rt)),
-        disk: Watched::new(FileDisk::new(rt.alloc(), rt, &others), &noted.front),
+        input: Announced::new(input, announcement),
+        output: StdSink::new(WaitingOutput::new(writer(rt), rt, store_of(command))),
+        disk: Watched::new(disk, &noted.front),
     };
-    let exit = run(rt.alloc(), words, &mut outside, &mut examined);
-    let failure = outside.files.failure();
-    let disk = outside.disk.disk();
-    let page = match command {
-        Some(command) => explain_run(rt.alloc(), command, &examined, failure, disk, exit),
-        None => explain_usage(rt.alloc(), words, exit),
+    let teller = Teller {
+        rt,
+        words,
+        command,
+        noted: &noted,
     };
-    say_page(rt, exit, page);
-    exit
+    run_over(rt.alloc(), words, &mut outside, &mut examined, &teller)
 }
 
 /// What is told of a word that isn't UTF-8.
@@ -78,7 +114,12 @@ const NOT_UTF8: &str = "obsidian: one of the words isn't UTF-8\n";
 // Tells of words that couldn't be had.
 fn lack_words(rt: &HostRuntime, kind: ErrorKind) -> Exit {
     let exit = Exit::without_words(kind);
-    say(rt, exit, if exit == Exit::Usage { NOT_UTF8 } else { "" });
+    say(
+        rt,
+        exit,
+        "",
+        if exit == Exit::Usage { NOT_UTF8 } else { "" },
+    );
     exit
 }
 
