@@ -1,0 +1,4 @@
+pub mod BySource
+pub mod Bounds
+pub mod Disks
+pub mod Sure
