@@ -1,0 +1,4 @@
+pub mod Pairs
+pub mod Naming
+pub mod Renaming
+pub mod Verdicts
