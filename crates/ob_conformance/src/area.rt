@@ -9,13 +9,13 @@ ghost use Rattle.ob_serve.specs.Kept.{IsServable};
 
 use crate::page::Page;
 use crate::question::Question;
+use ob_base::{DEFAULT_FUEL, DEFAULT_LANES, DEFAULT_SLICE, MOST_LANES};
 use ob_disk::{Disk, MemoryDisk};
 use ob_front::{Compiled, Seen, compile};
 use ob_io::{SureSink, SureSource};
 use ob_serve::{Limits, Served, serve};
 use ob_store::{OpenError, Store};
 use ob_verify::Verified;
-use ob_words::{DEFAULT_FUEL, DEFAULT_LANES, DEFAULT_SLICE, MOST_LANES};
 use std::alloc::Global;
 
 /// The limits of a session where none are told.

@@ -1,5 +1,6 @@
 //! The turns of a batch on a store.
 ghost use Rattle.std.specs.Prelude.{◌<◌, ◌≤◌, ◌^◌, ℕ, List, Option, length, map};
+ghost use Rattle.ob_base.specs.Limits.{most_requests};
 ghost use Rattle.ob_code.specs.Images.{image};
 ghost use Rattle.ob_code_table.specs.ImageTables.{table_of_image};
 ghost use Rattle.ob_heap.specs.Contents.{content_of};
@@ -10,7 +11,6 @@ ghost use Rattle.ob_invocation_spec.specs.Requests.{HasLabels};
 ghost use Rattle.ob_lanes_laws.specs.Laws.{OfEach};
 ghost use Rattle.ob_store_spec.specs.Stores.{StoreState};
 ghost use Rattle.ob_wire.specs.Meanings.{request_of};
-ghost use Rattle.ob_wire.specs.Requests.{most_requests};
 ghost use Rattle.ob_wire.specs.declared.request.Request.{Request as Asked};
 ghost use Rattle.ob_serve.specs.Kept.{AreLimits, IsServable};
 ghost use Rattle.ob_serve.specs.Serving.{IsServing};

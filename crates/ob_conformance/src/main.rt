@@ -2,21 +2,24 @@
 //! verifier says of an image and what runs of its code come to, what disks and journals hold, and how runs end whose outside fails.
 //!
 //! Each line of its input is a question: a word that says which, and words that belong to it. Each line of its output is an answer: words
-//! with a blank before each, or `!` where there is none. docs/cases.py asks it what cases ask, and tells its answers as cases expect them;
-//! the file data/README.md says which questions there are.
+//! with a blank before each, or `!` where there is none. tests/cases.py asks it what cases ask, and tells its answers as cases expect them;
+//! the file tests/cases/README.md says which questions there are.
 #![tactic(auto)]
 
 mod area;
 mod base;
 mod bodies;
 mod desk;
+mod files;
 mod front;
 mod image;
 mod lanes;
+mod noted;
 mod owners;
 mod page;
 mod question;
 mod runs;
+mod scripted;
 mod slices;
 mod table;
 mod terms;
@@ -37,6 +40,7 @@ fn answer(alloc: Global, asked: &mut Question<'_>, page: &mut Page) {
         "image" => image::image(alloc, asked, page),
         "runs" => runs::runs(alloc, asked, page),
         "desk" => desk::steps(alloc, asked, page),
+        "file" => files::steps(alloc, asked, page),
         "sure" => whole::sure(alloc, asked, page),
         word => answer_small(alloc, word, asked, page),
     }

@@ -6,7 +6,8 @@ use ob_disk::{Disk, MemoryDisk, SureDisk};
 use ob_io::{
     Files, MemoryFiles, MemorySink, MemorySource, Sink, Source, SureFiles, SureSink, SureSource,
 };
-use ob_run::{Examined, Exit, Outside, run};
+use ob_outside::{Exit, Outside};
+use ob_run::{Examined, run};
 use std::alloc::Global;
 use std::mem;
 
