@@ -15,11 +15,19 @@
 
 Only Python's standard library is needed. `who` is a name that this process vouches for: a front for many people decides which of them is which
 client, since the program takes each line as it stands.
+
+Where a request is interrupted, as by a time limit or by Ctrl-C, nobody can tell whether it was done, and its reply may still come. So the run is
+asked no more: each request after it raises Broken.
 """
+import contextlib
 import itertools
 import json
+import os
+import selectors
 import subprocess
 import threading
+import time
+import weakref
 from dataclasses import dataclass
 
 # Why a line is refused, by its number: the name, and what to do.
@@ -52,21 +60,25 @@ ABORTS = {
     ("full",): "begin a new store",
     ("room", "need", "size"): 'see "A full store" in the guide',
 }
-# How a run ends, by its status: the name, and what became of the request in hand: of those without a reply the one that would have been
+# How a run ends, by its status: the name, and what became of the request in progress: of those without a reply the one that would have been
 # answered next. The others weren't done.
 ENDS = {
-    0: ("Done", "its input was ended before: the line wasn't asked"),
+    0: ("Done", "its input had ended: the line wasn't sent"),
     1: ("Refused", "the text of the program has a fault: nothing was done"),
-    2: ("Usage", "the words are no command: nothing was done"),
+    2: ("Usage", "the words aren't a command: nothing was done"),
     3: ("ReadFault", "the line wasn't read: it wasn't done"),
-    4: ("WriteFault", "the request in hand may be done: look before you ask again"),
-    5: ("DiskFault", "the request in hand is in the store whole or not at all: look before you ask again"),
+    4: ("WriteFault", "the request in progress may be done: look before you ask again"),
+    5: ("DiskFault", "the request in progress is in the store in full or not at all: look before you ask again"),
     6: ("StoreRefused", "the store wasn't opened: nothing was done"),
-    7: ("Memory", "the request in hand changed nothing"),
+    7: ("Memory", "the request in progress changed nothing"),
     8: ("FileFault", "the file of the program couldn't be read: nothing was done"),
     9: ("Long", "the line wasn't read: it wasn't done"),
 }
-UNKNOWN_END = ("Crash", "the request in hand is in the store whole or not at all: look before you ask again")
+UNKNOWN_END = ("Crash", "the request in progress is in the store in full or not at all: look before you ask again")
+# Why a run is asked no more, and what to do.
+GIVEN_UP = ("an earlier line was given up before its last reply", "close this run, begin another, and look what was done")
+MISMATCHED = ("a reply came that isn't one to this line", GIVEN_UP[1])
+FORKED = ("the run belongs to the process from which this one was forked", "begin a run of your own")
 # How an object is given.
 MODES = ("owned", "shared", "unowned")
 
@@ -94,9 +106,18 @@ class Aborted(Error):
         super().__init__(f"aborted: {name}{', ' + told if told else ''}: {self.advice}")
 
 
+class Broken(Error):
+    """The run is asked no more, since the next reply may be one to an earlier line, or since it is another process's: `reason`, and what to
+    do (`advice`)."""
+
+    def __init__(self, reason, advice):
+        self.reason, self.advice = reason, advice
+        super().__init__(f"this run is asked no more: {reason}: {advice}")
+
+
 class Ended(Error):
     """The program has ended and answers no more: `status`, `name`, the lines that it still wrote (`told`), and what became of the request
-    in hand (`advice`). Of a batch `answered` has what the requests with a reply came to, by their places in it, from 0."""
+    in progress (`advice`). Of a batch `answered` has what the requests with a reply came to, by their places in it, from 0."""
 
     def __init__(self, status, told=()):
         self.status, self.told, self.answered = status, list(told), {}
@@ -128,85 +149,145 @@ def outcome_of(reply):
     return Aborted(reply["abort"], {key: value for key, value in reply.items() if key not in ("abort", "id")})
 
 
+# The servers of this process.
+SERVERS = weakref.WeakSet()
+
+
+def let_go():
+    """In a process that was just forked, lets its copies of all pipes lead nowhere: otherwise no run's input would end while this process lives.
+    They aren't closed, since their numbers could be those of other files by the time that they are closed again."""
+    if SERVERS:
+        nothing = os.open(os.devnull, os.O_RDWR)
+        for pipe in (pipe for server in SERVERS for pipe in (server.run.stdin, server.run.stdout) if not pipe.closed):
+            os.dup2(nothing, pipe.fileno(), inheritable=False)
+        os.close(nothing)
+
+
+os.register_at_fork(after_in_child=let_go)
+
+
 class Server:
-    """A run of `COMMAND serve PROGRAM [STORE]`, from its beginning to `close`, or to the end of a `with`. Several threads may ask."""
+    """A run of `COMMAND serve PROGRAM [STORE]`, from its beginning to `close`, or to the end of a `with`. Several threads may ask, but a process
+    that is forked may not."""
 
     def __init__(self, program, store=None, command=("obsidian",), fuel=None):
         options = [] if fuel is None else ["--fuel", str(fuel)]
         words = [*command, *options, "serve", "--", program, *([] if store is None else [store])]
         self.run = subprocess.Popen(words, stdin=subprocess.PIPE, stdout=subprocess.PIPE)
+        self.process = os.getpid()
         self.numbers = itertools.count(1)
-        self.turn = threading.Lock()
+        # Whoever has it may use the pipes. A signal's handler that asks in the midst of a request finds `is_open`, and doesn't wait for itself.
+        self.turn = threading.RLock()
+        # Whether a line was begun whose replies haven't all been taken.
+        self.is_open = False
+        SERVERS.add(self)
 
     def client(self, who):
         return Client(self, who)
 
     def ask(self, **request):
-        """Asks a request, whose `id` is given here, and returns what its reply has as `ok`; raises Refused, Aborted or Ended."""
-        with self.turn:
-            request["id"] = next(self.numbers)
-            self.send(request)
-            outcome = outcome_of(self.reply())
+        """Asks a request, whose `id` is given here, and returns what its reply has as `ok`; raises Refused, Aborted, Ended or Broken."""
+        asked = {**request, "id": next(self.numbers)}
+        outcome = self.exchange(asked, [asked])[0]
         if isinstance(outcome, Error):
             raise outcome
         return outcome
 
     def batch(self, requests):
         """Asks 1 to 64 requests, each made by `Client.request`, in one line. Returns what each comes to, in their order: what its reply has as
-        `ok`, or its Refused or Aborted. Raises Refused where the line is, or Ended, which has what was answered before."""
+        `ok`, or its Refused or Aborted. Raises Refused where the line is, Ended, which has what was answered before, or Broken."""
+        asked = [{**request, "id": next(self.numbers)} for request in requests]
+        return self.exchange(asked, asked)
+
+    def exchange(self, value, asked):
+        """Writes a line, and returns what each of its requests comes to. Where anything interrupts this, the run is asked no more: the next
+        reply may be one to this line."""
+        line, outcomes = json.dumps(value, ensure_ascii=False, separators=(",", ":")).encode() + b"\n", {}
+        # A fork has a copy of the lock, which nobody there may ever release.
+        if os.getpid() != self.process:
+            raise Broken(*FORKED)
         with self.turn:
-            asked = [{**request, "id": next(self.numbers)} for request in requests]
-            self.send(asked)
-            outcomes = {}
+            if self.is_open:
+                raise Broken(*GIVEN_UP)
+            self.is_open = True
             try:
+                self.send(line)
                 self.take_replies(asked, outcomes)
+            except Refused:
+                self.is_open = False
+                raise
             except Ended as ended:
                 ended.answered = outcomes
+                self.is_open = False
                 raise
+            self.is_open = False
         return [outcomes[place] for place in range(len(asked))]
 
     def take_replies(self, asked, outcomes):
-        """Takes the replies to a batch, and notes in `outcomes` what each request comes to, by its place. Raises Refused where the line is."""
+        """Takes the replies to a line, and notes in `outcomes` what each of its requests comes to, by its place. Raises Refused where the line
+        is, as a whole and with one reply."""
         places = {request["id"]: place for place, request in enumerate(asked)}
-        # A line that is refused, as one with an empty batch, has one reply.
         for _ in asked or [None]:
             reply = self.reply()
-            if reply["id"] is None:
+            if reply["id"] is None and "refused" in reply and not outcomes:
                 raise outcome_of(reply)
-            outcomes[places[reply["id"]]] = outcome_of(reply)
+            if reply["id"] not in places:
+                raise Broken(*MISMATCHED)
+            outcomes[places.pop(reply["id"])] = outcome_of(reply)
 
-    def send(self, value):
-        """Writes a line."""
-        line = json.dumps(value, ensure_ascii=False, separators=(",", ":")).encode() + b"\n"
+    def send(self, line):
+        """Writes a line. Nothing of it is kept to be written later, so of one that is given up no more is sent."""
+        left = memoryview(line)
         try:
-            self.run.stdin.write(line)
-            self.run.stdin.flush()
+            while left:
+                left = left[os.write(self.run.stdin.fileno(), left):]
         except (BrokenPipeError, ValueError):
             raise self.ended() from None
 
     def reply(self):
         """The next reply. What the program writes on a line that it doesn't answer, as a fault of its text, is none."""
-        told = self.run.stdout.readline()
+        told = b"" if self.run.stdout.closed else self.run.stdout.readline()
         if not told.startswith(b"{") or not told.endswith(b"\n"):
             raise self.ended(told)
         return json.loads(told)
 
     def ended(self, told=b""):
         """How the program ended, with the rest of its lines."""
-        if self.run.stdout.closed:
-            return Ended(self.run.returncode)
-        rest = told + self.run.stdout.read()
+        rest = told if self.run.stdout.closed else told + self.run.stdout.read()
         return Ended(self.run.wait(), rest.decode(errors="replace").splitlines())
 
-    def close(self):
-        """Ends the input, waits for the program's end, and returns its status: 0 where all is well."""
+    def close(self, limit=60):
+        """Ends the input, reads what was left of replies, waits for the program's end, and returns its status: 0 where all is well. Where the
+        program hasn't ended after `limit` seconds it is killed. In a fork nothing is done, and None is returned."""
+        if os.getpid() != self.process:
+            return None
+        end = time.monotonic() + limit
+        if not self.turn.acquire(timeout=limit):
+            # Another thread is still waiting for a reply. The end of the program ends that.
+            self.run.kill()
+            return self.run.wait()
         try:
             self.run.stdin.close()
-        except BrokenPipeError:
-            pass
-        status = self.run.wait()
-        self.run.stdout.close()
-        return status
+            self.read_away(end)
+            return self.run.wait(max(end - time.monotonic(), 0))
+        except subprocess.TimeoutExpired:
+            self.run.kill()
+            return self.run.wait()
+        finally:
+            # A signal's handler can't close what it has interrupted in a read.
+            with contextlib.suppress(RuntimeError):
+                self.run.stdout.close()
+            self.turn.release()
+
+    def read_away(self, end):
+        """Reads what the program still writes, until it ends or the time is over. It can't end while its output is full."""
+        if self.run.stdout.closed:
+            return
+        with selectors.DefaultSelector() as selector:
+            selector.register(self.run.stdout, selectors.EVENT_READ)
+            while (left := end - time.monotonic()) > 0:
+                if selector.select(left) and not os.read(self.run.stdout.fileno(), 1 << 16):
+                    return
 
     def __enter__(self):
         return self

@@ -11,6 +11,7 @@ import signal
 import sys
 import tempfile
 import threading
+import time
 import unittest
 
 import obsidian
@@ -18,38 +19,44 @@ import vending_machine
 from obsidian import Ref
 
 TOP = vending_machine.TOP
-DATA = os.path.join(TOP, "crates", "ob_conformance", "data")
 COMMAND = [os.path.join(TOP, "crates", "obsidian", "out", "obsidian")]
 # In the place of the program: it answers the second request of a batch, writes a part of the next reply, and ends as where the disk fails.
 ENDS_EARLY = [sys.executable, "-c", "input(); print('{\"id\":2,\"ok\":7}\\n{\"id\"', end=''); raise SystemExit(5)"]
+# In the place of the program: it answers each line with that text, or not at all, and doesn't end where its input does.
+SAYS = [sys.executable, "-c", "import sys; [print(sys.argv[1], flush=True) for line in sys.stdin]"]
+SILENT = [sys.executable, "-c", "import time; time.sleep(600)"]
+# After how many seconds a request is given up, and after how many a run that should have ended is killed.
+LIMIT, PATIENCE = 0.2, 30
 
 
 def serve(name, **how):
-    return obsidian.Server(os.path.join(DATA, name), command=COMMAND, **how)
+    example = os.path.join(TOP, "examples", name.removesuffix(".obs"), name)
+    path = example if os.path.exists(example) else os.path.join(TOP, "tests", "programs", name)
+    return obsidian.Server(path, command=COMMAND, **how)
 
 
-def rows_of_guide(front):
-    """The cells of the table of the guide that begins with this line."""
-    with open(os.path.join(TOP, "docs", "GUIDE.md"), encoding="utf-8") as file:
+def rows_of_reference(front):
+    """The cells of the table of the reference that begins with this line."""
+    with open(os.path.join(TOP, "docs", "REFERENCE.md"), encoding="utf-8") as file:
         rows = file.read().partition(front)[2].split("\n")[2:]
     end = next(place for place, row in enumerate(rows) if not row.startswith("|"))
     return [[cell.strip() for cell in row.strip("|").split("|")] for row in rows[:end]]
 
 
 def without_links(text):
-    """A text of the guide, with the names of its chapters in quotes."""
+    """A text of the reference, with the names of the guide's chapters in quotes."""
     return re.sub(r"\[([^]]*)\]\([^)]*\)", r'"\1" in the guide', text)
 
 
 class TablesTest(unittest.TestCase):
-    """What the client says of refusals and aborts is what the guide says."""
+    """What the client says of refusals and aborts is what the reference says."""
 
-    def test_refusals_are_those_of_the_guide(self):
-        rows = rows_of_guide("| number | name | the line is refused where | what to do |")
+    def test_refusals_are_those_of_the_reference(self):
+        rows = rows_of_reference("| number | name | the line is refused where | what to do |")
         self.assertEqual({int(number): (name, advice) for number, name, _, advice in rows}, obsidian.REFUSALS)
 
-    def test_aborts_are_those_of_the_guide(self):
-        rows = rows_of_guide("| `abort` | with | why | what to do |")
+    def test_aborts_are_those_of_the_reference(self):
+        rows = rows_of_reference("| `abort` | with | why | what to do |")
         told = {(name.strip("`"), *re.findall(r"`(\w+)`", parts)): without_links(advice) for name, parts, _, advice in rows}
         self.assertEqual(told, obsidian.ABORTS)
 
@@ -229,6 +236,149 @@ class EndsTest(unittest.TestCase):
         self.ended(0, "Done", ann.call, "t", "add", 1)
 
 
+class TimeUp(BaseException):
+    """A time limit that is reached: not even an Exception."""
+
+
+class InterruptedTest(unittest.TestCase):
+    """What is interrupted between a line and its last reply breaks the server, so that no request has another one's reply."""
+
+    def tally(self, name="tally.obs", contract="Tally", *args):
+        """A server with an object `t` of ann, and ann. A run that doesn't end is killed, so that the tests go on."""
+        server = serve(name)
+        timer = threading.Timer(PATIENCE, server.run.kill)
+        timer.start()
+        self.addCleanup(timer.cancel)
+        self.addCleanup(server.close)
+        ann = server.client("ann")
+        ann.new(contract, *args, into="t")
+        return server, ann
+
+    def give_up(self, server, ask, *words, meanwhile=lambda: None):
+        """Asks while the program doesn't run, until a time limit, and lets it run again."""
+        server.run.send_signal(signal.SIGSTOP)
+        meanwhile()
+        with time_limit(), self.assertRaises(TimeUp):
+            ask(*words)
+        server.run.send_signal(signal.SIGCONT)
+
+    def broken(self, ask, *words):
+        with self.assertRaises(obsidian.Error) as raised:
+            ask(*words)
+        self.assertIsInstance(raised.exception, obsidian.Broken)
+        self.assertIn("begin", raised.exception.advice)
+        self.assertIn(raised.exception.advice, str(raised.exception))
+
+    def test_a_time_limit(self):
+        server, ann = self.tally()
+        self.give_up(server, ann.call, "t", "add", 5)
+        self.broken(ann.call, "t", "add", 1)
+        self.broken(server.batch, [ann.request("see", on="t")])
+        self.assertEqual(server.close(), 0)
+        self.broken(ann.see, "t")
+
+    def test_what_was_given_up_is_done_and_nothing_after_it(self):
+        with tempfile.TemporaryDirectory() as folder:
+            store = os.path.join(folder, "store")
+            with serve("tally.obs", store=store) as server:
+                ann = server.client("ann")
+                ann.new("Tally", into="t")
+                self.give_up(server, ann.call, "t", "add", 5)
+                self.broken(ann.call, "t", "add", 1)
+            with serve("tally.obs", store=store) as server:
+                self.assertEqual(server.client("ann").see("t")["fields"], {"n": 5})
+
+    def test_a_fork(self):
+        server, ann = self.tally()
+        child = os.fork()
+        if child == 0:
+            try:
+                ann.call("t", "add", 1)
+            except obsidian.Error as error:
+                os._exit(0 if type(error).__name__ == "Broken" and server.close() is None else 1)
+            finally:
+                os._exit(1)
+        self.assertEqual(os.waitstatus_to_exitcode(os.waitpid(child, 0)[1]), 0)
+        self.assertEqual(ann.call("t", "add", 2), 2)
+        self.assertEqual(server.close(), 0)
+
+    def test_a_fork_that_lives_on(self):
+        server, ann = self.tally()
+        child = os.fork()
+        if child == 0:
+            signal.pause()
+        try:
+            self.assertEqual(server.close(), 0)
+        finally:
+            os.kill(child, signal.SIGKILL)
+            os.waitpid(child, 0)
+
+    def test_a_batch_that_is_given_up(self):
+        server, ann = self.tally("operators.obs", "Sums", "a" * 1024)
+        self.give_up(server, server.batch, [ann.request("see", on="t")] * 64)
+        self.broken(ann.see, "t")
+        self.assertEqual(server.close(), 0)
+        self.assertEqual(server.close(), 0)
+
+    def test_a_thread_that_waits_for_its_turn(self):
+        server, ann = self.tally()
+        came = []
+        waiting = threading.Thread(target=lambda: came.append(outcome(ann.call, "t", "add", 1)))
+        self.give_up(server, ann.call, "t", "add", 5, meanwhile=threading.Timer(LIMIT / 2, waiting.start).start)
+        waiting.join()
+        self.assertEqual([type(it).__name__ for it in came], ["Broken"])
+
+    def test_a_wait_for_the_turn_that_is_given_up(self):
+        server, ann = self.tally()
+        came = []
+        first = threading.Thread(target=lambda: came.append(outcome(ann.call, "t", "add", 1)))
+        self.give_up(server, ann.call, "t", "add", 5, meanwhile=lambda: (first.start(), wait_until(lambda: server.is_open)))
+        first.join()
+        self.assertEqual(came, [1])
+        self.assertEqual(ann.call("t", "add", 2), 3)
+
+    def test_a_handler_that_asks(self):
+        server, ann = self.tally()
+        came = []
+        server.run.send_signal(signal.SIGSTOP)
+        threading.Timer(2 * LIMIT, server.run.send_signal, [signal.SIGCONT]).start()
+        with time_limit(lambda *_: came.append(outcome(ann.call, "t", "add", 5))):
+            self.assertEqual(ann.call("t", "add", 1), 1)
+        self.assertEqual([type(it).__name__ for it in came], ["Broken"])
+        self.assertEqual(ann.call("t", "add", 2), 3)
+
+    def test_what_has_no_line_breaks_nothing(self):
+        server, ann = self.tally()
+        self.assertRaises(UnicodeEncodeError, server.client("\udc80").see, "t")
+        self.assertRaises(TypeError, server.batch, [ann.request("see", on=b"t")])
+        self.assertEqual(ann.call("t", "add", 2), 2)
+
+    def test_replies_of_other_numbers(self):
+        for reply in ('{"id":2,"ok":null}', '{"id":null,"ok":null}'):
+            with obsidian.Server("tally.obs", command=[*SAYS, reply]) as server:
+                self.broken(server.client("ann").see, "t")
+                self.broken(server.client("ann").see, "t")
+        with obsidian.Server("tally.obs", command=[*SAYS, '{"id":1,"ok":null}']) as server:
+            see = server.client("ann").request("see", on="t")
+            self.assertEqual(server.batch([see]), [None])
+            self.broken(server.batch, [see, see])
+
+    def test_a_program_that_does_not_end_is_killed(self):
+        server = obsidian.Server("tally.obs", command=SILENT)
+        self.assertEqual(server.close(LIMIT), -signal.SIGKILL)
+
+    def test_a_thread_that_waits_for_a_reply_while_another_closes(self):
+        server = obsidian.Server("tally.obs", command=SILENT)
+        came = []
+        waiting = threading.Thread(target=lambda: came.append(outcome(server.client("ann").see, "t")))
+        waiting.start()
+        wait_until(lambda: server.is_open)
+        self.assertEqual(server.close(LIMIT), -signal.SIGKILL)
+        waiting.join()
+        self.assertEqual([it.status for it in came], [-signal.SIGKILL])
+        self.assertEqual(server.close(), -signal.SIGKILL)
+
+
 class ExampleTest(unittest.TestCase):
     BOUGHT = "bought candy 1, which alice owns\nnot bought: state, the machine is Empty: ask for it, by `see`, before\nsold so far: 1\n"
 
@@ -244,6 +394,36 @@ class ExampleTest(unittest.TestCase):
             vending_machine.main(COMMAND, os.path.join(folder, "store"))
             vending_machine.main(COMMAND, os.path.join(folder, "store"))
         self.assertEqual(told.getvalue().splitlines()[-1], "sold so far: 2")
+
+
+def time_is_up(*_):
+    raise TimeUp
+
+
+@contextlib.contextmanager
+def time_limit(handler=time_is_up):
+    """Calls a handler of the alarm once the time is over."""
+    kept = signal.signal(signal.SIGALRM, handler)
+    signal.setitimer(signal.ITIMER_REAL, LIMIT)
+    try:
+        yield
+    finally:
+        signal.setitimer(signal.ITIMER_REAL, 0)
+        signal.signal(signal.SIGALRM, kept)
+
+
+def outcome(ask, *words):
+    """What a request comes to: what it gives, or the error that it raises."""
+    try:
+        return ask(*words)
+    except obsidian.Error as error:
+        return error
+
+
+def wait_until(holds):
+    end = time.monotonic() + PATIENCE
+    while not holds() and time.monotonic() < end:
+        time.sleep(0.001)
 
 
 @contextlib.contextmanager

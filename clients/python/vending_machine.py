@@ -11,7 +11,7 @@ import sys
 import obsidian
 
 TOP = os.path.dirname(os.path.dirname(os.path.dirname(os.path.abspath(__file__))))
-PROGRAM = os.path.join(TOP, "crates", "obsidian", "data", "vending_machine.obs")
+PROGRAM = os.path.join(TOP, "examples", "vending_machine", "vending_machine.obs")
 
 
 def machine_of(alice):
