@@ -63,7 +63,7 @@ def main():
     new = before + BEGIN + made + END + after
     if "--check" in sys.argv[1:]:
         if new != text:
-            sys.exit("signatures.py: docs/CLAIMS.md isn't up to date: run docs/signatures.py")
+            sys.exit("signatures.py: docs/CLAIMS.md isn't up to date: run tools/signatures.py")
     else:
         DOCUMENT.write_text(new)
 

@@ -1,6 +1,6 @@
 #!/usr/bin/env python3
-"""Writes docs/THEOREM.md: what docs/theorem.txt says, with the corollary's definitions in it; the contract of the top call; and below it the
-definitions of the run's own layer, all as they are written; and in the end the list of all modules on which the contract rests.
+"""Writes docs/THEOREM.md: what tools/theorem.txt says, with the corollary's definitions and an order of reading in it; the contract of the top call;
+and below it the definitions of the run's own layer, all as they are written; and in the end the list of all modules on which the contract rests.
 
 Only definitions on which the contract rests are shown, each with the comment above it, crate by crate from the top down and file by
 file, so that a name stands before what it is made of. What lies deeper is named at the end, with its place in docs/DEFINITIONS.md. What is
@@ -17,9 +17,31 @@ sys.path.insert(0, str(pathlib.Path(__file__).resolve().parent))
 import definitions as names
 
 DOCUMENT = names.TOP / "docs" / "THEOREM.md"
-INTRODUCTION = names.TOP / "docs" / "theorem.txt"
+INTRODUCTION = names.TOP / "tools" / "theorem.txt"
 # The file of the corollary's definitions, and the line of the introduction in whose place they stand.
 COROLLARY, MARK = "ob_run/Corollary", "<!-- the corollary -->"
+# What is read first, in this order, with the line of the introduction in whose place its table stands: the definitions of a file, or all of a
+# crate's on which the contract rests, and what they say.
+ORDER_MARK = "<!-- the order of reading -->"
+ORDER = (
+    ("ob_run/Corollary", ("ServesObservable",), "What `serve P STORE` has done where all bytes are observable: above, as it is written"),
+    ("ob_run/Statuses", ("Treats",), "What each status says of a command whose text was read"),
+    ("ob_serve/Served", ("SpeaksOf", "IsAnswered", "IsGiven", "IsStored", "Ends"), "Each end of a session: the columns of the table of statuses"),
+    ("ob_run/Survival", ("Survives",), "What a crash at any moment leaves"),
+    ("ob_serve/Crash", ("AfterFirst", "AfterSome"), "The stores after a prefix of the items"),
+    ("ob_serve/Kept", ("IsKept",), "What each item keeps: rest, one owner of each asset, and nothing changed where nothing was done"),
+    ("ob_serve/Items", ("items_of_line",), "The items of a line, a batch counted in"),
+    ("ob_store_spec/Settling", ("settled",), "When a line gets a record, when the store moves, and when there is no room"),
+    ("ob_store_spec/Stores", ("IsStoreOf",), "When the bytes of a disk represent a store of a program"),
+    ("ob_disk_spec/Disk", ("Torn", "IsQuiet", "IsWrite"), "The crash model: what a write may leave of bytes until a sync"),
+    ("ob_rest_spec", (), "When a store is at rest, and what owns an object"),
+    ("ob_invocation_spec", (), "What a request does: refusals, what it enters, what handles become, its reply"),
+    ("ob_source_meaning", (), "What the body of a transaction does, by its source"),
+)
+# The crates that tell of sessions, stores and the outside: what is read next.
+CORE = ("ob_run", "ob_serve", "ob_outside", "ob_store_spec", "ob_journal_spec", "ob_disk_spec", "ob_io")
+# A line that uses definitions of a library.
+LIBRARY = re.compile(r"(?:ghost )?use Rattle\.(\w+)\.specs\.([\w.]+?)(?:\.\{| as |;|$)")
 # Lines of prose have so many characters at most.
 WIDTH = 140
 # The call whose clauses promise more of an accepted program than the top call's, and the clauses.
@@ -28,7 +50,9 @@ PROMISE_FILE, PROMISE_CALL, PROMISES = "ob_front/src/programs.rt", "compile", ("
 MOST_LINES = 44
 # The run's own layer, from the top down: what each crate is about, in a few words.
 LAYER = {
+    "obsidian": "What a run of a further command does",
     "ob_run": "What each status says of a run",
+    "ob_outside": "All that a run meets outside itself, and how it ends",
     "ob_serve": "A session: lines, their items, replies and the store, one after another",
     "ob_owners": "What an audit counts",
     "ob_store": "A disk of which no byte changed, and what a store holds that is only read",
@@ -41,6 +65,56 @@ LAYER = {
 DEFINED = re.compile(r"(?:abbrev |unfoldable )?pub (?:data |record )?(\S+)")
 CLAUSE = re.compile(r"    (?:ensures|requires) (\w+)? ?\{")
 RULE = re.compile(r"-- -+ (.*)$")
+
+
+# ---- the order of reading
+
+def lines_of(writer, place, keys):
+    """The parts of a file that define these: each by its file and number, with how many lines it has."""
+    path = names.CRATES / (place.replace("/", "/specs/", 1) + ".antt")
+    wanted = {name for at, name in keys if at == place}
+    found = [(number, without_head(block, path)) for number, block in enumerate(blocks(path))]
+    return {(place, number): block.count("\n") + 1 for number, block in found if wanted & set(defined_in(block))}
+
+
+def used_in(project, place, first):
+    """These definitions of a file, and those of the same file that they use."""
+    found, waiting = set(), [(place, name) for name in first]
+    while waiting:
+        key = waiting.pop()
+        if key not in project.definitions:
+            sys.exit(f"theorem.py: {place} has no definition {key[1]}")
+        if key not in found:
+            found.add(key)
+            waiting += [other for other in project.definitions[key].cites if other[0] == place]
+    return found
+
+
+def read_by(writer, place, first):
+    """What a row of the order of reading has: the parts with their lines."""
+    if first:
+        return lines_of(writer, place, used_in(writer.project, place, first))
+    places = [other for other in writer.project.files if other.startswith(place + "/")]
+    return {part: count for other in places for part, count in lines_of(writer, other, writer.reached).items()}
+
+
+def order_of_reading(writer):
+    """The table of what is read first, each row with the lines that it adds."""
+    rows, read = ["| read | in | which says | lines | in all |", "|---|---|---|---|---|"], {}
+
+    def add(what, where, says, parts):
+        new = {part: count for part, count in parts.items() if part not in read}
+        read.update(new)
+        rows.append(f"| {what} | {where} | {says} | {sum(new.values()):,} | {sum(read.values()):,} |")
+
+    for place, first, says in ORDER:
+        path = names.path_from_docs(place) if first else f"../crates/{place}/specs"
+        add(", ".join(f"`{name}`" for name in first) or "all", f"[{place}]({path})", says, read_by(writer, place, first))
+    core = {part: count for crate in CORE for part, count in read_by(writer, crate, ()).items()}
+    add("the rest of these", ", ".join(CORE), "Sessions, stores and the outside in all", core)
+    every = {part: count for place in writer.project.files for part, count in lines_of(writer, place, writer.reached).items()}
+    add("the rest", "[the modules](#the-modules-on-which-it-rests)", "What texts are accepted, their code, and its lanes", every)
+    return "\n".join(rows)
 
 
 # ---- the contract and the definitions as they are written
@@ -202,11 +276,13 @@ def deeper_part(writer):
 
 
 def introduction(writer):
-    """What stands before the contract, with the corollary's definitions in their place."""
+    """What stands before the contract, with the corollary's definitions and the order of reading in their places."""
     text = INTRODUCTION.read_text().strip()
-    if text.count(MARK) != 1:
-        sys.exit(f"theorem.py: theorem.txt doesn't have the mark {MARK} once")
-    return text.replace(MARK, "\n".join(file_part(writer, COROLLARY)).strip())
+    for mark, made in ((MARK, "\n".join(file_part(writer, COROLLARY)).strip()), (ORDER_MARK, order_of_reading(writer))):
+        if text.count(mark) != 1:
+            sys.exit(f"theorem.py: theorem.txt doesn't have the mark {mark} once")
+        text = text.replace(mark, made)
+    return text
 
 
 def document(writer):
@@ -261,6 +337,18 @@ def wrapped(text):
     return textwrap.wrap(f"- {text}", WIDTH, subsequent_indent="  ", break_on_hyphens=False)
 
 
+def libraries(writer, files):
+    """The modules of libraries other than std that these files of definitions use, and the contracts above them."""
+    paths = [names.CRATES / (place.replace("/", "/specs/", 1) + ".antt") for place in sorted(files)]
+    paths += [names.CRATES / file.place for file, _ in writer.contracts]
+    found = {}
+    for path in paths:
+        for library, module in (used.groups() for line in path.read_text().split("\n") if (used := LIBRARY.match(line.strip()))):
+            if library != "std" and not library.startswith("ob"):
+                found.setdefault(library, set()).add(module.removesuffix(".TheVariants"))
+    return [f"**{library}.specs**: {', '.join(sorted(modules))}" for library, modules in sorted(found.items())]
+
+
 def promised(writer):
     """What the clauses rest on that promise more of an accepted program."""
     path = names.CRATES / PROMISE_FILE
@@ -283,6 +371,8 @@ def modules_part(writer):
     for group, crates in groups:
         text = listed(writer.project, crates, first)
         lines += wrapped(f"**{group}**: {text}") if text else []
+    lines += ["", "They use these modules of libraries, which say what words and a line of JSON mean, beside Rattle's own:", ""]
+    lines += [line for text in libraries(writer, first) for line in wrapped(text)]
     lines += ["", f"The clauses `{'` and `'.join(PROMISES)}` of `{PROMISE_CALL}` rest on {len(more)} more:", ""]
     return lines + wrapped(listed(writer.project, [crate for _, crates in groups for crate in crates], more))
 

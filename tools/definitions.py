@@ -1,14 +1,19 @@
 #!/usr/bin/env python3
-"""Writes docs/DEFINITIONS.md: all definitions of crates/*/specs, first those on which the contract of the top call rests.
+"""Writes docs/DEFINITIONS.md, an index of the definitions of crates/*/specs in reading order, and all of them into out/DEFINITIONS.md; or prints
+definitions by name.
 
-The document has five parts: the top call's contract with every definition that its clauses cite, and that those cite; the
-faults by number, each with its conditions, sites, code and cases; the sites of the class table; the definitions that are
-left, crate by crate; and an index. All is read from the crates: sentences are the comments above definitions, and where a rule
-comes from stands in brackets in the head of its file. What isn't there, docs/definitions.txt may say.
+    tools/definitions.py            writes both documents
+    tools/definitions.py NAME ..    prints each definition of a name as it is written, with its file and line, and what it cites
+    tools/definitions.py --check    says whether the index is up to date, and ends with 1 if not
 
-With `--check` nothing is written: it says whether the document is up to date, and ends with 1 if not. Either way it names on
-standard error each definition that has neither a comment nor a sentence in definitions.txt, each name of the code that stands in a
-comment without marks, and each line of definitions.txt that is of nothing.
+The index has the files on which the contract of the top call rests, each with what it is about and the names that it defines, a file before those
+whose definitions it uses; and below them the other files. The whole document has five parts: the top call's contract with every definition that its
+clauses cite, and that those cite; the faults by number, each with its conditions, sites, code and cases; the sites of the class table; the
+definitions that are left, crate by crate; and an index of names. All is read from the crates: sentences are the comments above definitions, and where
+a rule comes from stands in brackets in the head of its file. What isn't there, tools/definitions.txt may say.
+
+Where documents are made or checked it names on standard error each definition that has neither a comment nor a sentence in definitions.txt, each name
+of the code that stands in a comment without marks, and each line of definitions.txt that is of nothing.
 """
 import pathlib
 import re
@@ -16,15 +21,17 @@ import sys
 from dataclasses import dataclass, field
 
 # The names in the project on which this file depends: files of definitions are CRATE/FILE, all others CRATE/src/FILE.rt.
-TOP_FILE, TOP_CALL = "ob_run/src/top.rt", "run"
+TOP_FILE, TOP_CALL = "obsidian/src/dispatch.rt", "run"
 NUMBERS, NUMBERS_IN_CODE, SITES, RULES = "ob_base/Faults", "ob_base/src/fault.rt", "ob_resolve_spec/Sites", "ob_flow_spec/Deriving"
 CASES, PREMISES = "ob_conformance", ("one", "must")
 
 TOP = pathlib.Path(__file__).resolve().parent.parent
 CRATES = TOP / "crates"
-DOCUMENT = TOP / "docs" / "DEFINITIONS.md"
-SENTENCES = TOP / "docs" / "definitions.txt"
+INDEX, DOCUMENT = TOP / "docs" / "DEFINITIONS.md", TOP / "out" / "DEFINITIONS.md"
+SENTENCES = TOP / "tools" / "definitions.txt"
 SIGNATURE_MOST, PART_MOST = 110, 150
+# The index has so many bytes at most.
+INDEX_MOST = 100_000
 
 IDENT = r"[A-Za-z_][A-Za-z0-9_']*(?:-[A-Za-z0-9_']+)*"
 CHAIN = re.compile(rf"(?<![\w.)'\]]){IDENT}(?:\.(?:{IDENT}|\d+))*")
@@ -567,6 +574,81 @@ class Writer:
         return "\n".join(lines).rstrip() + "\n"
 
 
+# ---- the index
+
+def indexed_file(writer, place, is_named):
+    """The line of a file in the index: a link, and what it is about with the names that it defines, or how many these are."""
+    link = f"[{place.split('/', 1)[1]}]({path_from_docs(place)})"
+    found = [d for is_reached in (True, False) for d in writer.listed(place, is_reached)]
+    if not is_named:
+        return f"- {link}: {len(found)}"
+    names = ", ".join(f"`{d.name}`" for d in found if d.key in writer.reached)
+    head = taken_apart(writer.project.files[place].head)[0] if place in writer.project.files else ""
+    return f"- {link}: {sentence(head)} {names}".replace(":  ", ": ")
+
+
+def path_from_docs(place):
+    """The path of a place from the folder of the documents."""
+    return f"../crates/{place}" if "/src/" in place else f"../crates/{place.replace('/', '/specs/', 1)}.antt"
+
+
+def indexed_crates(writer, crates, is_reached):
+    """The crates of the index that have files on which the top call's contract rests, or the files that are left."""
+    lines = []
+    for _, crate in crates:
+        of_crate = [place for place in writer.project.files if place.startswith(crate + "/")]
+        places = [place for place in of_crate if bool(writer.listed(place, True)) == is_reached and writer.listed(place, is_reached)]
+        places = files_in_order(writer.project, places)
+        if is_reached:
+            places = places[::-1] + sorted({key[0] for key in writer.reached if key[0].startswith(crate + "/src/")})
+        if places:
+            title = crate if is_reached or not any(key[0].startswith(crate + "/") for key in writer.reached) else f"{crate}, the rest"
+            lines += ["", f"### {title}", "", *[indexed_file(writer, place, is_reached) for place in places]]
+    return lines
+
+
+def index(writer):
+    """The text of the index."""
+    crates = crates_in_order()
+    files = {key[0] for key in writer.reached}
+    lines = [INDEX_HEAD.format(reached=len(writer.reached), files=len(files), call=TOP_CALL)]
+    lines += ["", f"## What the contract of `{TOP_CALL}` rests on", *indexed_crates(writer, list(reversed(crates)), True)]
+    lines += ["", "## The rest", "", REST_INTRODUCTION, *indexed_crates(writer, crates, False)]
+    return "\n".join(lines).rstrip() + "\n"
+
+
+# ---- one definition
+
+def written(place, name):
+    """The block of a file that defines a name, with its first line, counted from 1."""
+    path = TOP / "docs" / path_from_docs(place)
+    lines = path.read_text().split("\n")
+    begins = re.compile(rf"\s*(?:abbrev |unfoldable )?pub (?:data |record |struct |enum )?{re.escape(name)}(?=[\s<{{(;:]|$)")
+    number = next((number for number, line in enumerate(lines) if begins.match(line)), None)
+    if number is None:
+        return 0, ""
+    first, last = number, number
+    while first > 0 and lines[first - 1].strip():
+        first -= 1
+    while last + 1 < len(lines) and (lines[last + 1].strip() if lines[number].startswith(" ") or "/src/" not in place else lines[last] != "}"):
+        last += 1
+    return first + 1, "\n".join(lines[first:last + 1])
+
+
+def tell(project, name):
+    """Prints each definition of a name, and the types that have a case or field of it."""
+    found = [key for key in project.definitions if key[1] == name]
+    owners = [d.key for d in project.definitions.values() if any(part.name == name for part in d.parts)]
+    for key in dict.fromkeys(found + owners):
+        number, text = written(*key)
+        path = path_from_docs(key[0]).removeprefix("../")
+        cited = sorted({f"{other[1]} ({other[0]})" for other in project.definitions[key].cites})
+        print(f"{path}:{number}" + ("" if key in found else f", of {key[1]}") + f"\n\n{text}\n" + (f"\ncites: {', '.join(cited)}\n" if cited else ""))
+    if not found and not owners:
+        print(f"definitions.py: no definition, field or case has the name {name}", file=sys.stderr)
+    return 0 if found or owners else 1
+
+
 def without_comments(text):
     """A text of the code without its comments."""
     return re.sub(r"//.*", "", text)
@@ -686,7 +768,7 @@ class Faults:
 
     def part(self):
         """All faults, first in a table and then one by one."""
-        lines = ["", "## 2. The faults", "", FAULTS_INTRODUCTION.format(cases=CASES), ""]
+        lines = ["", "## 2. The faults", "", FAULTS_INTRODUCTION, ""]
         lines += ["| number | name | what it says | cases |", "|---|---|---|---|"]
         for number, name, said, _ in self.numbers.values():
             count = sum(self.cases.get(number, {}).values())
@@ -755,7 +837,7 @@ def code_of_constants(constants):
 def count_cases():
     """How many cases of each file have a fault's number in their answer."""
     counts = {}
-    for path in sorted((CRATES / CASES / "data").glob("*.txt")):
+    for path in sorted((TOP / "tests" / "cases").rglob("*.txt"), key=lambda path: path.name):
         part, every = "", ""
         for line in path.read_text().split("\n"):
             word, _, rest = line.partition(" ")
@@ -797,9 +879,20 @@ def sites_part(writer):
 
 # ---- sentences of the document
 
+INDEX_HEAD = """# Definitions
+
+The definitions of this project stand in `crates/CRATE/specs/`. This index has their files in an order in which they can be read.
+`tools/definitions.py` makes it from the crates. `tools/definitions.py NAME` prints a definition, and without a name the script writes
+`out/DEFINITIONS.md` too: all definitions with their types and sentences, and the faults with their conditions, sites, code and cases.
+
+The contract of `{call}` rests on {reached} definitions and types of {files} files. With Rattle's own library and those of `clap` and `serde_json` they
+are all that has to be read to know what is proved; [THEOREM](THEOREM.md#an-order-of-reading) says which come first. They go from the top down, crate by
+crate: a file stands before those whose definitions it uses. Names are those on which the contract rests. What else the same files define, and what the
+files below them do, contracts of functions inside and laws cite."""
+
 HEAD = """# Definitions
 
-What the contracts of this project cite, with types and sentences. `docs/definitions.py` makes this document from the crates:
+What the contracts of this project cite, with types and sentences. `tools/definitions.py` makes this document from the crates:
 the sentences are the comments above the definitions.
 
 1. [What `{call}` says](#1-what-{call}-says): the contract of the top call, and the {reached} definitions and types that it
@@ -833,7 +926,7 @@ stands what it says, and
 - its sites: the kinds of places at which a condition of names and types looks (part 3), and the forms of a lowered body whose
   permission rules ask for a premise
 - its code: the functions that answer the number
-- its cases: how many have it in their answer, by files of `crates/{cases}/data`"""
+- its cases: how many have it in their answer, by sheets of `tests/cases`"""
 
 SITES_INTRODUCTION = """A site is a place of a program at which something is asked of it. The conditions in part 2 say which
 sites have a fault; the definitions that make sites go over the tree."""
@@ -850,17 +943,25 @@ def main():
     files += [CRATES / place.replace("/", "/specs/", 1) for place in (NUMBERS + ".antt", SITES + ".antt", RULES + ".antt")]
     missing = [str(path.relative_to(TOP)) for path in files if not path.exists()]
     if missing:
-        print("not there, see the top of docs/definitions.py:", *missing, file=sys.stderr)
+        print("not there, see the top of tools/definitions.py:", *missing, file=sys.stderr)
         return 2
+    names = [word for word in sys.argv[1:] if word != "--check"]
+    if names:
+        project = Project()
+        return max([tell(project, name) for name in names])
     writer = Writer()
-    text = writer.document()
+    text, everything = index(writer), writer.document()
     for what in dict.fromkeys(writer.wrong):
         print(what, file=sys.stderr)
+    if len(text.encode()) > INDEX_MOST:
+        sys.exit(f"definitions.py: the index has {len(text.encode()):,} bytes, and may have {INDEX_MOST:,}")
     if "--check" in sys.argv[1:]:
-        is_same = DOCUMENT.exists() and DOCUMENT.read_text() == text
+        is_same = INDEX.exists() and INDEX.read_text() == text
         print("up to date" if is_same else "not up to date")
         return 0 if is_same else 1
-    DOCUMENT.write_text(text)
+    INDEX.write_text(text)
+    DOCUMENT.parent.mkdir(exist_ok=True)
+    DOCUMENT.write_text(everything)
     return 0
 
 

@@ -100,7 +100,7 @@ def main():
     elif text != right and "--write" in sys.argv[1:]:
         DOCUMENT.write_text(right)
     elif text != right:
-        wrong.append("the table of floors in docs/ARCHITECTURE.md isn't that of crates.txt: run python3 docs/chains.py --write")
+        wrong.append("the table of floors in docs/ARCHITECTURE.md isn't that of crates.txt: run python3 tools/chains.py --write")
 
     for why in wrong:
         print(f"chains.py: {why}", file=sys.stderr)

@@ -79,7 +79,7 @@ class Repository:
 
     def __init__(self):
         self.files = tracked()
-        self.crates = {place.split("/")[1] for place in self.files if place.startswith("crates/")}
+        self.crates = {place.split("/")[1] for place in self.files if place.startswith("crates/") and place.count("/") > 1}
         self.names, self.by_crate = set(), {crate: set() for crate in self.crates}
         # Besides what sources declare, the libraries that crates use.
         self.declared = set(re.findall(r"\w+", (TOP / "crates.txt").read_text()))
@@ -89,13 +89,13 @@ class Repository:
             found = {*parts, path.stem, *re.findall(r"[A-Za-z_][A-Za-z0-9_]*", text)}
             self.names |= found
             self.declared |= {*parts, path.stem} | declared_in(path.suffix, text)
-            if parts[0] == "crates":
+            if parts[0] == "crates" and len(parts) > 2:
                 self.by_crate[parts[1]] |= found
         self.spoken = {word for crate in SPOKEN for word in quoted(crate)}
 
     def has_case(self, sheet, title):
         """Whether a sheet has a case of this title."""
-        places = [place for place in self.files if place.endswith("/data/" + sheet)]
+        places = [place for place in self.files if place.startswith("tests/cases/") and place.endswith("/" + sheet)]
         return any(line.partition(" ")[2] == title for place in places for line in (TOP / place).read_text(errors="replace").split("\n"))
 
     def has_path(self, path, crates):
@@ -207,7 +207,9 @@ class Document:
         """Looks at a link: its file, and its heading."""
         if ":" in place:
             return
-        path = (self.path.parent / place).resolve() if place else self.path
+        # The introduction of a document that is made is read in docs/.
+        folder = self.path.parent if self.path.suffix == ".md" else TOP / "docs"
+        path = (folder / place).resolve() if place else self.path
         if not path.exists():
             self.note(number, f"no file {place}")
         elif anchor and path.suffix == ".md" and anchor not in anchors(path.read_text()):
@@ -223,7 +225,7 @@ class Document:
 def main():
     repository = Repository()
     paths = [TOP / place for place in repository.files if place.endswith(".md") and pathlib.PurePath(place).name not in MADE]
-    paths += [TOP / "docs" / "theorem.txt"]
+    paths += [TOP / "tools" / "theorem.txt"]
     wrong = [why for path in paths for why in Document(path, repository).look()]
     for why in wrong:
         print(f"names.py: {why}", file=sys.stderr)

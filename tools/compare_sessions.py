@@ -2,7 +2,7 @@
 """Runs sessions of a program, and compares each reply with the one that the session has.
 
   ./obsidian test [--fuel UNITS] [--lanes LANES] [--slice UNITS] P SESSION..
-  python3 compare_sessions.py [--program COMMAND] [OPTIONS] P SESSION..
+  python3 tools/compare_sessions.py [--program COMMAND] [OPTIONS] P SESSION..
 
 How a session is written says docs/GUIDE.md, under "Tests of your own". Each is served from an empty store; one with a line `restart` over a
 store in a file, which is gone at the end. Of each session the first reply that differs is shown, with its place, and how many agree; at the end
@@ -21,7 +21,7 @@ import sys
 import tempfile
 from dataclasses import dataclass, field
 
-TOP = os.path.dirname(os.path.abspath(__file__))
+TOP = os.path.dirname(os.path.dirname(os.path.abspath(__file__)))
 PROGRAM = os.path.join(TOP, "crates", "obsidian", "out", "obsidian")
 OPTIONS = ("--fuel", "--lanes", "--slice")
 # Comments, texts, words and signs of a program.
@@ -278,6 +278,9 @@ def main():
 
 def status():
     """The status of a run. It ends quietly where nobody reads what it tells, as behind `| head`."""
+    for stream in (sys.stdout, sys.stderr):
+        # A name needn't be UTF-8. Python has its other bytes as surrogates.
+        stream.reconfigure(errors="surrogateescape")
     try:
         given = main()
         sys.stdout.flush()
