@@ -53,7 +53,7 @@ def tracked():
     """The files of the repository, but for what was built: by their paths from the top."""
     found = []
     for folder, folders, files in os.walk(TOP):
-        folders[:] = [name for name in folders if name not in (".git", "out", "__pycache__")]
+        folders[:] = [name for name in folders if name not in (".git", "out", "unfinished", "__pycache__")]
         found += [(pathlib.Path(folder) / name).relative_to(TOP).as_posix() for name in files]
     return sorted(found)
 
