@@ -10,7 +10,7 @@ use ob_explain_words::explain_words;
 use ob_io_std::{Access, Failure, FileDisk, StdFile};
 use ob_outside::Exit;
 use ob_run::{Examined, StoreRefusal};
-use ob_words::{Command, parse_words};
+use ob_words::{Command, WordsError, parse_words};
 use std::alloc::Global;
 
 /// What is told where the input is too long.
@@ -48,11 +48,12 @@ pub struct Ended<'a> {
     pub exit: Exit,
 }
 
-/// The command that words are; None where they are none, or memory lacks.
-pub fn command_of(alloc: Global, words: &[String]) -> Option<Command<'_>> {
+/// The command that words are; None where they are none.
+pub fn command_of(alloc: Global, words: &[String]) -> Result<Option<Command<'_>>, Memory> {
     match parse_words(alloc, words) {
-        Ok(asked) => Some(asked.command),
-        Err(_) => None,
+        Ok(asked) => Ok(Some(asked.command)),
+        Err(WordsError::Usage) => Ok(None),
+        Err(WordsError::Memory) => Err(Memory),
     }
 }
 

@@ -14,6 +14,7 @@ use crate::explaining::{
 };
 use crate::running::{Tells, run_over};
 use crate::saying::{say, say_page, writes_over};
+use ob_base::Memory;
 use ob_explain_store::Watched;
 use ob_io_std::{FileDisk, StdFile, StdFiles, StdSink, StdSource, WaitingInput, WaitingOutput};
 use ob_outside::{Exit, Outside};
@@ -82,9 +83,26 @@ impl<'a, R: Read, W: Write> Tells<
     }
 }
 
-// Makes the four objects of a run, and runs what the words ask for over them.
-fn run_told(rt: &HostRuntime, words: &[String]) -> Exit {
-    let command = command_of(rt.alloc(), words);
+// Whether a word means the file to which standard error goes.
+fn names_errors(rt: &HostRuntime, words: &[String]) -> bool {
+    for word in words {
+        if writes_over(rt, Some(word.as_str())) {
+            return true;
+        }
+    }
+    false
+}
+
+// Ends before a run, where memory lacks for its words: without them it isn't known which file is the store.
+fn lack_memory(rt: &HostRuntime, words: &[String]) -> Exit {
+    if !names_errors(rt, words) {
+        say(rt, Exit::Memory, "", "");
+    }
+    Exit::Memory
+}
+
+// Makes the four objects of a run of this command, and runs what the words ask for over them.
+fn run_told<'a>(rt: &'a HostRuntime, words: &'a [String], command: Option<Command<'a>>) -> Exit {
     let noted = Noted::nothing();
     let mut examined = Examined::nothing(rt.alloc());
     examined.opened = Some(&noted.held);
@@ -108,6 +126,14 @@ fn run_told(rt: &HostRuntime, words: &[String]) -> Exit {
     run_over(rt.alloc(), words, &mut outside, &mut examined, &teller)
 }
 
+// Runs what the words ask for.
+fn run_words(rt: &HostRuntime, words: &[String]) -> Exit {
+    match command_of(rt.alloc(), words) {
+        Ok(command) => run_told(rt, words, command),
+        Err(Memory) => lack_memory(rt, words),
+    }
+}
+
 /// What is told of a word that isn't UTF-8.
 const NOT_UTF8: &str = "obsidian: one of the words isn't UTF-8\n";
 
@@ -125,7 +151,7 @@ fn lack_words(rt: &HostRuntime, kind: ErrorKind) -> Exit {
 
 fn main(rt: HostRuntime) -> ExitCode {
     let exit = match words(&rt) {
-        Ok(words) => run_told(&rt, &words),
+        Ok(words) => run_words(&rt, &words),
         Err(error) => lack_words(&rt, error.kind()),
     };
     ExitCode::from(exit.status())
